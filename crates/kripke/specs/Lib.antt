@@ -1,0 +1,9 @@
+pub mod Words
+pub mod Models
+pub mod Kinds
+pub mod Paths
+pub mod Formulas
+pub mod Relation
+pub mod Components
+pub mod Numbering
+pub mod Reduced

@@ -1,0 +1,26 @@
+-- Two numbers below 2 ^ n are equal where each of their n lowest bits is.
+use mathlib.Core.Bool.{Bool}
+use mathlib.Core.Path.{_≡_, sym, ap, _∙_}
+use Prim.Native.Nat.{ℕ, zero, suc, _+_, _*_, _/_, _%_, _^_, _<_}
+use native.Mathlib.Nat.{div-div-eq-div-mul, div-one, pow-suc, mul-comm}
+use native.Mathlib.Omega.{arith}
+use lib.Dec.{eqb}
+use Rattle.std.proofs.shelf.Ways.{tells}
+use Rattle.kripke.specs.Words.{bit}
+
+-- a bit is 0 or 1, so the test for 1 tells it
+same-digit : (m n : ℕ) → eqb (m % 2) 1 ≡ eqb (n % 2) 1 → m % 2 ≡ n % 2
+same-digit m n e = grind (arith, tells)
+
+half-bit : (n a : ℕ) → bit (n / 2) a ≡ bit n (suc a)
+half-bit n a = ap (λ m. eqb (m % 2) 1) (div-div-eq-div-mul n 2 (2 ^ a) ∙ ap (λ p. n / p) (mul-comm 2 (2 ^ a) ∙ sym (pow-suc 2 a)))
+
+lowest-bit : (n : ℕ) → bit n 0 ≡ eqb (n % 2) 1
+lowest-bit n = ap (λ m. eqb (m % 2) 1) (div-one n)
+
+pub same-from-bits : (n x y : ℕ) → x < 2 ^ n → y < 2 ^ n → ((a : ℕ) → a < n → bit x a ≡ bit y a) → x ≡ y
+same-from-bits zero x y p q h = omega arith
+same-from-bits (suc n) x y p q h =
+    let halves : x / 2 ≡ y / 2 = same-from-bits n (x / 2) (y / 2) (omega (arith, pow-suc 2 n)) (omega (arith, pow-suc 2 n)) (λ a l. half-bit x a ∙ h (suc a) (omega arith) ∙ sym (half-bit y a)) in
+    let digits : x % 2 ≡ y % 2 = same-digit x y (sym (lowest-bit x) ∙ h 0 (omega arith) ∙ lowest-bit y) in
+    omega arith
