@@ -2,3 +2,16 @@ pub mod Rows
 pub mod Tables
 pub mod Sides
 pub mod Rests
+pub mod Counting
+pub mod Finite
+pub mod Ranking
+pub mod Paths
+pub mod Cycle
+pub mod Deciding
+pub mod Rounds
+pub mod Similar
+pub mod Agreement
+pub mod Stability
+pub mod Telling
+pub mod Numbering
+pub mod Settling
