@@ -15,3 +15,4 @@ pub mod Stability
 pub mod Telling
 pub mod Numbering
 pub mod Settling
+pub mod Quotient

@@ -308,3 +308,10 @@ module _ (M : Kripke) (formed : WellFormed M) (r : ℕ) (before : (s : ℕ) → 
 pub mark : (M : Kripke) → WellFormed M → (r s : ℕ) → (f : Formula) × Marks M r s f
 mark M formed zero s = first-mark M formed s
 mark M formed (suc r) s = next-mark M formed r (mark M formed r) s
+
+-- what r rounds part, a formula nested at most r deep tells apart
+pub parted : (M : Kripke) → WellFormed M → (r s t : ℕ) → s < M .frame .size → t < M .frame .size → (Related M r s t → ⊥) →
+    (f : Formula) × (depth f ≤ r) × Holds M f s × (Holds M f t → ⊥)
+parted M formed r s t h k apart =
+    let f = mark M formed r s in
+    (f .0, f .1 .0, f .1 .1 s h .1 (related-equivalence M r .own s h), λ p. apart (f .1 .1 t k .0 p))
