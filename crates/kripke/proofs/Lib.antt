@@ -16,3 +16,4 @@ pub mod Telling
 pub mod Numbering
 pub mod Settling
 pub mod Quotient
+pub mod Components
