@@ -17,3 +17,5 @@ pub mod Numbering
 pub mod Settling
 pub mod Quotient
 pub mod Components
+pub mod Truth
+pub mod Claims
