@@ -19,3 +19,4 @@ pub mod Quotient
 pub mod Components
 pub mod Truth
 pub mod Claims
+pub mod Sampling
