@@ -1,9 +1,11 @@
 pub mod Words
 pub mod Models
 pub mod Kinds
+pub mod Equivalence
 pub mod Paths
 pub mod Formulas
 pub mod Relation
 pub mod Components
 pub mod Numbering
 pub mod Reduced
+pub mod Claims
