@@ -85,11 +85,21 @@ impl Set {
         self.bits & other.bits != 0
     }
 
+    /// Whether both sets have the same members.
+    pub fn same(self, other: Set) -> bool
+        ensures { λ r. ⌜ Decides r ((j : ℕ) → In self j ↔ In other j) ⌝ }
+    {
+        self.bits == other.bits
+    }
+
     /// What is in this set and not in the other.
     pub fn minus(self, other: Set) -> Set
-        ensures { λ r. ⌜ ((j : ℕ) → In r j ↔ (In self j × (In other j → ⊥))) ⌝ }
+        ensures means { λ r. ⌜ ((j : ℕ) → In r j ↔ (In self j × (In other j → ⊥))) ⌝ }
+        ensures shrinks { λ r. ⌜ r .bits ≤ self .bits ⌝ }
     {
-        self.and(other.others())
+        Set {
+            bits: self.bits & !other.bits,
+        }
     }
 
     /// Whether the set has two members or more.
