@@ -12,7 +12,7 @@ use Rattle.std.proofs.shelf.Lists.{getD-set-same, getD-set-other}
 use Rattle.sets.specs.declared.Set.{Set}
 use Rattle.sets.specs.Sets.{In, none, Splits}
 use Rattle.sets.proofs.Bits.{none-in, or-grows}
-use Rattle.merger.specs.Grids.{at, set-at, Kept}
+use Rattle.merger.specs.Grids.{at, set-at, On, Kept}
 
 -- what holds of eight numbers from f on
 pub eight : (P : ℕ → Type 0) (f : ℕ) → P f → P (f + 1) → P (f + 2) → P (f + 3) → P (f + 4) → P (f + 5) → P (f + 6) → P (f + 7) →
@@ -101,3 +101,24 @@ module _ (row : List ℕ) (gone : Set) where
     (λ e. let p = C l .0 e in (p .0, λ h. empty l (p .1 h))),
     (λ p. C l .1 (p .0, λ h. absurd (p .1 h))),
   )
+
+-- the rows below n have the marks of before that Stays lets be, and the others are as they were
+pub record Cut (reach reach′ : List (List ℕ)) (Stays : ℕ → ℕ → Type 0) (n : ℕ) : Type 0 where
+  pub done : (k l : ℕ) → k < n → On reach′ k l ↔ (On reach k l × Stays k l)
+  pub rest : (k : ℕ) → n ≤ k → getD reach′ k [] ≡ getD reach k []
+
+module _ (reach : List (List ℕ)) (Stays : ℕ → ℕ → Type 0) where
+  pub cut-none : Cut reach reach Stays 0
+  cut-none = record { done = λ k l h. absurd (omega arith); rest = λ k h. refl }
+
+  pub cut-more : (reach′ : List (List ℕ)) (n : ℕ) (row : List ℕ) → n < length reach′ → Cut reach reach′ Stays n →
+      ((l : ℕ) → (at row l ≡ 1) ↔ (On reach′ n l × Stays n l)) → Cut reach (set reach′ n row) Stays (n + 1)
+  cut-more reach′ n row room C kept = record {
+    done = λ k l h. ⊎-elim
+        (λ same. subst (λ i. On (set reach′ n row) i l ↔ (On reach i l × Stays i l)) (sym same)
+            (subst (λ r. (at r l ≡ 1) ↔ (On reach n l × Stays n l)) (sym (getD-set-same reach′ n row [] room))
+              (subst (λ r. (at row l ≡ 1) ↔ ((at r l ≡ 1) × Stays n l)) (C .rest n (omega arith)) (kept l))))
+        (λ other. subst (λ r. (at r l ≡ 1) ↔ (On reach k l × Stays k l)) (sym (getD-set-other reach′ n k row [] other)) (C .done k l (omega arith)))
+        (cases-eq k n);
+    rest = λ k h. getD-set-other reach′ n k row [] (omega arith) ∙ C .rest k (omega arith);
+  }

@@ -1,3 +1,4 @@
 pub mod Gathering
 pub mod Looking
 pub mod Placing
+pub mod Advancing

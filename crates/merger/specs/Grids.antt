@@ -48,6 +48,12 @@ Outlook reach moves class count k c = (l : ℕ) × (l < count) × On reach k l �
 abbrev pub Outlooks : List Set → List (List ℕ) → List Set → List ℕ → ℕ → Set → Type 0
 Outlooks rows reach moves class count wanted = (k : ℕ) → In wanted k → (c : ℕ) → In (set-at rows k) c ↔ Outlook reach moves class count k c
 
+-- row k of reach′ is row k of reach without the marks of what was in the class of k and is no more
+abbrev pub Narrowed : List (List ℕ) → List (List ℕ) → List ℕ → List Set → List ℕ → List Set → ℕ → Type 0
+Narrowed reach reach′ class members class′ members′ count =
+    (k l : ℕ) → k < count →
+    On reach′ k l ↔ (On reach k l × (In (set-at members (at class k)) l × (In (set-at members′ (at class′ k)) l → ⊥) → ⊥))
+
 -- two sets have the same members
 abbrev pub Same : Set → Set → Type 0
 Same x y = (c : ℕ) → In x c ↔ In y c

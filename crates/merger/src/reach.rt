@@ -7,7 +7,8 @@ ghost use Prim.Native.Nat.{ℕ, _+_, _<_, _≤_};
 ghost use lib.ListN.{length, getD};
 ghost use Rattle.std.specs.Orderings.{Decides};
 ghost use Rattle.sets.specs.Sets.{In};
-ghost use Rattle.merger.specs.Grids.{at, set-at, Kept};
+ghost use Rattle.merger.specs.Grids.{at, set-at, Kept, Narrowed};
+use crate::parting::Parting;
 use sets::Set;
 
 // Whether eight places from `from` on are all clear.
@@ -48,5 +49,19 @@ pub(crate) fn clear(row: &mut [u8; 128], gone: Set)
     while let Some((l, rest)) = left.split_first() {
         row[l] = 0;
         left = rest;
+    }
+}
+
+// Clears the pairs of components that were parted.
+pub(crate) fn narrow(reach: &mut [[u8; 128]; 128], class: &[u8; 128], members: &[Set; 128], parting: &Parting, count: usize)
+    requires few { ⌜ count ≤ 128 ⌝ }
+    requires old { ⌜ ((k : ℕ) → k < count → at (now class) k < 128) ⌝ }
+    requires new { ⌜ ((k : ℕ) → k < count → at (now parting .class) k < 128) ⌝ }
+    ensures { λ _. ⌜ Narrowed (now (reach .entry)) (now (reach .exit)) (now (class .entry)) (now (members .entry)) (now (parting .entry) .class) (now (parting .entry) .members) count ⌝ }
+{
+    for k in 0..count {
+        let before = members[class[k] as usize];
+        let after = parting.members[parting.class[k] as usize];
+        clear(&mut reach[k], before.minus(after));
     }
 }
