@@ -2,3 +2,4 @@ pub mod Gathering
 pub mod Looking
 pub mod Placing
 pub mod Advancing
+pub mod Moving

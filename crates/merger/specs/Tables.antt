@@ -4,6 +4,8 @@ use mathlib.Core.Path.{_≡_}
 use mathlib.Core.Bool.{true, false}
 use mathlib.Core.Logic.{_↔_}
 use Rattle.sets.specs.Sets.{In}
+use Rattle.kripke.specs.Models.{Frame}
+use Rattle.kripke.specs.Paths.{Move}
 use Rattle.kripke.specs.Numbering.{Numbering}
 use Rattle.merger.specs.declared.tables.Found.{Found}
 use Rattle.merger.specs.declared.tables.Rounds.{Rounds}
@@ -15,6 +17,10 @@ part F s = at (F .component) s
 
 abbrev pub class-of : Found → Rounds → ℕ → ℕ
 class-of F S s = at (S .class) (part F s)
+
+-- some state of component k moves to one of component l; of one component, it is then cyclic
+abbrev pub Passes : Frame → (ℕ → ℕ) → ℕ → ℕ → Type 0
+Passes F part k l = (s t : ℕ) × Move F s t × (part s ≡ k) × (part t ≡ l)
 
 -- the tables stand within their bounds
 pub record Bounded (F : Found) (S : Rounds) : Type 0 where
