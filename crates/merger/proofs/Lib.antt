@@ -3,3 +3,4 @@ pub mod Looking
 pub mod Placing
 pub mod Advancing
 pub mod Moving
+pub mod Rounding
