@@ -4,3 +4,5 @@ pub mod Placing
 pub mod Advancing
 pub mod Moving
 pub mod Rounding
+pub mod Promising
+pub mod Calling

@@ -5,8 +5,8 @@ use mathlib.Core.Bool.{Bool, true, false}
 use mathlib.Core.Logic.{_↔_, _⊎_, inl, inr, ⊎-elim, ∥∥₁-elim, ∥∥₁-map}
 use mathlib.Core.HLevel.{⊥-prop}
 use native.Mathlib.Omega.{arith}
-use Rattle.std.proofs.shelf.Tests.{cases-bool}
-use Rattle.sets.specs.Sets.{In}
+use Rattle.std.proofs.shelf.Tests.{cases-bool, cases-eq}
+use Rattle.sets.specs.Sets.{bit, In}
 use Rattle.kripke.specs.Models.{Kripke}
 use Rattle.kripke.specs.Relation.{ST, Related, Stable, Settles}
 use Rattle.kripke.specs.Numbering.{Numbering, Ranked}
@@ -120,6 +120,32 @@ module _ (F : Found) (S : Rounds) (meant : ∥ ((M : Kripke) × (r : ℕ) × Tab
   at-most x y f =
       let no-more : y < x → ⊥ = λ over. ∥∥₁-elim meant ⊥-prop (λ a. let b = f (tabled-bounded (a .0) (a .1) F S (a .2)) in omega arith) in
       omega arith
+
+  equals : (x y : ℕ) → (Bounded F S → x ≡ y) → x ≡ y
+  equals x y f = ⊎-elim
+      (λ e. e)
+      (λ other. absurd (∥∥₁-elim meant ⊥-prop (λ a. other (f (tabled-bounded (a .0) (a .1) F S (a .2))))))
+      (cases-eq x y)
+
+  -- what is opened stands within its bounds
+  pub meant-bounded : Bounded F S
+  meant-bounded = record {
+    wide = at-most (F .states) 128 (λ B. B .wide);
+    parts = λ s h. at-most (suc (part F s)) (F .components) (λ B. B .parts s h);
+    few = at-most (F .components) 128 (λ B. B .few);
+    most = at-most (S .classes) 128 (λ B. B .most);
+    room = at-most (S .made) 129 (λ B. B .room);
+    groups = record {
+      low = λ k h. at-most (suc (at (S .class) k)) 128 (λ B. B .groups .low k h);
+      each = λ c k. (
+        (λ h. (at-most (suc k) (F .components) (λ B. B .groups .each c k .0 h .0), equals (at (S .class) k) c (λ B. B .groups .each c k .0 h .1))),
+        (λ p. equals (bit (set-at (S .members) c .bits) k) 1 (λ B. B .groups .each c k .1 p)),
+      );
+    };
+    low = λ k h. at-most (suc (at (S .class) k)) (S .classes) (λ B. B .low k h);
+    moves = λ k l h m. at-most (suc l) (F .components) (λ B. B .moves k l h m);
+    near = λ k l h b o. equals (at (S .class) k) (at (S .class) l) (λ B. B .near k l h b o);
+  }
 
   -- and one more round is again the analysis of a model
   pub meant-advanced : (S′ : Rounds) → S .settled ≡ false → Advanced F S S′ → ∥ ((M : Kripke) × (r : ℕ) × Tabled M r F S′) ∥₁

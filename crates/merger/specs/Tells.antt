@@ -1,0 +1,39 @@
+-- What each call answers of a model after r rounds.
+use Prim.Native.Nat.{ℕ, suc, _+_, _-_, min, _<_, _≤_}
+use mathlib.Core.Path.{_≡_}
+use mathlib.Core.Bool.{Bool, false}
+use Rattle.std.specs.Orderings.{Decides}
+use Rattle.std.specs.Results.{Cases}
+use Rattle.std.specs.declared.option.Option.the-variants.{None, Some}
+use Rattle.std.specs.declared.result.Result.{Result}
+use Rattle.kripke.specs.Models.{Kripke}
+use Rattle.kripke.specs.Formulas.{Agree}
+use Rattle.kripke.specs.Relation.{Related, Settles}
+use Rattle.merger.specs.declared.answers.Refusal.{Refusal}
+use Rattle.merger.specs.declared.answers.Made.{Made}
+use Rattle.merger.specs.declared.answers.Ran.{Ran}
+use Rattle.merger.specs.Refusals.{Refused}
+use Rattle.merger.specs.Promise.{Classes, Told}
+
+-- one more round: how many there are, how many classes C of so many rounds has, and whether the last one settled
+pub record RoundTells (M : Kripke) (r : ℕ) (answer : Result Made Refusal) : Type 0 where
+  pub settled : Settles M r → Refused answer 22 None
+  pub made : (Settles M r → ⊥) →
+      Cases answer (λ x. (x .rounds ≡ suc r) × ((f : ℕ → ℕ) × Classes M (suc r) f (x .classes)) × Decides (x .settled) (Settles M (suc r))) (λ _. ⊥)
+
+-- the smaller of the budget and the rounds left up to the settling one, z, and whether that is made
+abbrev pub RunTells : Kripke → ℕ → ℕ → Result Ran Refusal → Type 0
+RunTells M r budget answer =
+    Cases answer (λ x. (z : ℕ) × Settles M z × (x .rounds ≡ min budget (z - r)) × Decides (x .settled) (Settles M (r + x .rounds))) (λ _. ⊥)
+
+-- the number of the class of s
+pub record ClassTells (M : Kripke) (r s : ℕ) (answer : Result ℕ Refusal) : Type 0 where
+  pub outside : M .frame .size ≤ s → Refused answer 23 (Some s)
+  pub told : s < M .frame .size → Cases answer (λ c. (f : ℕ → ℕ) (m : ℕ) → Classes M r f m → c ≡ f s) (λ _. ⊥)
+
+-- whether s and t share a class; once settled, whether no formula tells them apart
+pub record TogetherTells (M : Kripke) (r s t : ℕ) (answer : Result Bool Refusal) : Type 0 where
+  pub first : M .frame .size ≤ s → Refused answer 23 (Some s)
+  pub second : s < M .frame .size → M .frame .size ≤ t → Refused answer 23 (Some t)
+  pub told : s < M .frame .size → t < M .frame .size →
+      Cases answer (λ b. Decides b (Related M r s t) × (Settles M r → Decides b (Agree M s M t)) × (b ≡ false → Told M r s t)) (λ _. ⊥)
