@@ -1,0 +1,4 @@
+pub mod Tests
+pub mod Closure
+pub mod Relating
+pub mod Truth
