@@ -14,14 +14,25 @@ use Rattle.kripke.proofs.Components.{Mutual, mutual-equivalence, mutual-compone
 use Rattle.kripke.proofs.Claims.{rounds-settle}
 use Rattle.worked.specs.Tables.{every, seek, look}
 use Rattle.worked.specs.Decisions.{relation, mutual?, ranks, at, steady, settling?, below, total?}
-use Rattle.worked.specs.Claims.{Relation-computed, Classes-computed, Components-computed, Settling-computed, Truth-computed, Totality-computed}
+use Rattle.worked.specs.Claims.{Relation-computed, ST-computed, NEXT-computed, LOOP-computed, Classes-computed, Components-computed, Settling-computed, Truth-computed, Totality-computed, Reduction-computed}
 use Rattle.worked.proofs.Tests.{Tells, holds, true-tells, tells-true, turned, both, implies, tells-lt, tells-every}
-use Rattle.worked.proofs.Relating.{draws-relation, draws-mutual}
+use Rattle.worked.proofs.Relating.{draws-relation, draws-inside, draws-outside, lists-loops, draws-mutual}
 use Rattle.worked.proofs.Ranks.{tells-seek, ranked-right}
 use Rattle.worked.proofs.Truth.{lists-truth}
+use Rattle.worked.proofs.Rows.{Below, tells-below}
+use Rattle.worked.proofs.Reducing.{tells-reduces}
 
 pub relation-computed : Relation-computed
 relation-computed M formed r s t h k = let d = draws-relation M formed r s t h k in (true-tells d, tells-true d)
+
+pub st-computed : ST-computed
+st-computed M formed r s t h k = let d = draws-inside M formed r s t h k in (true-tells d, tells-true d)
+
+pub next-computed : NEXT-computed
+next-computed M formed r s t h k = let d = draws-outside M formed r s t h k in (true-tells d, tells-true d)
+
+pub loop-computed : LOOP-computed
+loop-computed M formed r s h = let d = lists-loops M formed r s h in (true-tells d, tells-true d)
 
 pub classes-computed : Classes-computed
 classes-computed M formed r = ranked-right (M .frame .size) (Related M r) (related-equivalence M r) (relation M r) (draws-relation M formed r)
@@ -60,17 +71,6 @@ settling-computed M formed some =
 pub truth-computed : Truth-computed
 truth-computed M f s h = let d = lists-truth M f s h in (true-tells d, tells-true d)
 
-abbrev pub Below : ℕ → List ℕ → Type 0
-Below n l = (k : ℕ) → k < length l → getD l k nowhere < n
-
-pub tells-below : (n : ℕ) (l : List ℕ) → Tells (Below n l) (below n l)
-unfolding below
-tells-below n [] = holds (λ k h. absurd (omega arith))
-tells-below n (x ∷ xs) = turned ahead (λ p. (p 0 (omega arith), λ k h. p (suc k) (omega arith))) (both (tells-lt x n) (tells-below n xs))
-  where
-    ahead : (x < n) × Below n xs → Below n (x ∷ xs)
-    ahead p = elim [ zero ↦ λ h. p .0 | suc k ↦ λ h. p .1 k (omega arith) ]
-
 pub tells-total : (F : Frame) → Tells (Total F) (total? F)
 unfolding total?
 tells-total F =
@@ -81,3 +81,6 @@ tells-total F =
 
 pub totality-computed : Totality-computed
 totality-computed M = let d = tells-total (M .frame) in (true-tells d, tells-true d)
+
+pub reduction-computed : Reduction-computed
+reduction-computed M formed r c m R whole = let d = tells-reduces M formed r c m R whole in (true-tells d, tells-true d)

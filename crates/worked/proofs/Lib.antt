@@ -3,4 +3,8 @@ pub mod Closure
 pub mod Relating
 pub mod Truth
 pub mod Ranks
+pub mod Rows
+pub mod Reducing
 pub mod Claims
+pub mod Found
+pub mod Cases

@@ -15,7 +15,7 @@ use Rattle.kripke.specs.Relation.{ST, NEXT, LOOP, Matched, Refined, Related}
 use Rattle.kripke.proofs.Paths.{trail-map, trail-first}
 use Rattle.kripke.proofs.Rounds.{related-equivalence, st-related, st-more}
 use Rattle.worked.specs.Tables.{any, every, row, lines, grid, look}
-use Rattle.worked.specs.Decisions.{Table, among, moves, roads, reached, looped, nexts, near, matches, finer, round, spoken, alike, relation, inside, mutual?}
+use Rattle.worked.specs.Decisions.{Table, among, moves, roads, reached, looped, nexts, near, matches, finer, round, spoken, alike, relation, inside, outside, loops, mutual?}
 use Rattle.worked.proofs.Tests.{Tells, holds, fails, turned, both, either, refuted, implies, equals, tells-bool, tells-eq, tells-any, tells-every, Lists, Draws, lists, draws, lines-look}
 use Rattle.worked.proofs.Closure.{Steps, Road, draws-road}
 use Rattle.kripke.proofs.Components.{Mutual}
@@ -198,6 +198,14 @@ module _ (M : Kripke) (formed : WellFormed M) where
   pub draws-inside : (r : ℕ) → Draws (M .frame .size) (inside M r) (ST (M .frame) (Related M r))
   unfolding inside
   draws-inside r = draws-reach (M .frame) (Related M r) (related-equivalence M r) (relation M r) (draws-relation r)
+
+  pub draws-outside : (r : ℕ) → Draws (M .frame .size) (outside M r) (NEXT (M .frame) (Related M r))
+  unfolding outside inside
+  draws-outside r = draws-nexts (M .frame) (Related M r) (related-equivalence M r) (relation M r) (draws-relation r)
+
+  pub lists-loops : (r : ℕ) → Lists (M .frame .size) (loops M r) (LOOP (M .frame) (Related M r))
+  unfolding loops inside
+  lists-loops r = lists-looped (M .frame) (Related M r) (related-equivalence M r) (relation M r) (draws-relation r)
 
   pub draws-mutual : Draws (M .frame .size) (mutual? M) (Mutual (M .frame) (Alike M))
   unfolding mutual?

@@ -76,9 +76,15 @@ relation M (suc r) = round (M .frame .size) (moves (M .frame)) (relation M r)
 abbrev pub related? : Kripke → ℕ → ℕ → ℕ → Bool
 related? M r s t = look (relation M r) s t
 
--- ST of the round after r
+-- ST, NEXT and LOOP by C_r, for the round after it
 unfoldable pub inside : Kripke → ℕ → Table
 inside M r = reached (M .frame .size) (roads (M .frame .size) (moves (M .frame)) (relation M r))
+
+unfoldable pub outside : Kripke → ℕ → Table
+outside M r = nexts (M .frame .size) (moves (M .frame)) (inside M r)
+
+unfoldable pub loops : Kripke → ℕ → List Bool
+loops M r = looped (M .frame .size) (roads (M .frame .size) (moves (M .frame)) (relation M r)) (inside M r)
 
 -- who reaches one another inside their class of alike states
 unfoldable pub mutual? : Kripke → Table
@@ -154,3 +160,25 @@ below n (x ∷ xs) = ltb x n && below n xs
 
 unfoldable pub total? : Frame → Bool
 total? F = every (F .size) (λ s. ltb 0 (length (F .row s)) && below (F .size) (F .row s))
+
+-- the targets of a row rise
+unfoldable pub rising? : List ℕ → Bool
+rising? [] = true
+rising? (x ∷ []) = true
+rising? (x ∷ y ∷ l) = ltb x y && rising? (y ∷ l)
+
+-- a move from s to t
+unfoldable pub move? : Frame → ℕ → ℕ → Bool
+move? F s t = ltb s (F .size) && (ltb t (F .size) && among (F .row s) t)
+
+-- R is the reduced model of M by C_r, whose m classes c numbers
+unfoldable pub reduces? : Kripke → ℕ → (ℕ → ℕ) → ℕ → Kripke → Bool
+reduces? M r c m R =
+    let n = M .frame .size in
+    let X = outside M r in
+    let L = loops M r in
+    eqb (R .frame .size) m && (eqb (R .labels .count) (M .labels .count) &&
+    (every n (λ s. not (every s (λ t. not (eqb (c t) (c s)))) || every (M .labels .count) (λ a. Bool·beq (R .labels .words (c s) a) (M .labels .words s a))) &&
+    (every m (λ i. every m (λ j. not (not (eqb j i)) || Bool·beq (move? (R .frame) i j) (any n (λ s. eqb (c s) i && any n (λ t. look X s t && eqb (c t) j))))) &&
+    (every m (λ i. Bool·beq (move? (R .frame) i i) (any n (λ s. eqb (c s) i && getD L s false))) &&
+    every m (λ i. rising? (R .frame .row i) && below m (R .frame .row i))))))
