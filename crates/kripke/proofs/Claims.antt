@@ -8,19 +8,20 @@ use Rattle.kripke.specs.Formulas.{Holds}
 use Rattle.kripke.specs.Relation.{Related}
 use Rattle.kripke.specs.Numbering.{Numbering}
 use Rattle.kripke.specs.Claims.{Rounds-equivalent, Rounds-refine, Rounds-decided, Components-kept, ST-narrows}
-use Rattle.kripke.specs.Claims.{Stable-stays, Rounds-settle, Settled-once, Rounds-counted, Parted-by-formula, Stable-exact}
+use Rattle.kripke.specs.Claims.{Stable-stays, Rounds-settle, Settled-once, Rounds-counted, Class-formula, Parted-by-formula, Stable-exact}
 use Rattle.kripke.specs.Claims.{Reduced-agrees, Reduced-smallest, Globally-goes-on, Truth-decided}
 use Rattle.kripke.specs.Claims.{Numbers-once, Classes-once, Components-once, Classes-there, Components-there}
 use Rattle.kripke.proofs.Paths.{stays-behind, stays-round}
 use Rattle.kripke.proofs.Cycle.{lasso, pump}
 use Rattle.kripke.proofs.Ranking.{ranked-few, ranked-same, ranked-count}
 use Rattle.kripke.proofs.Numbering.{numbered, numbering-same, numbering-count}
-use Rattle.kripke.proofs.Deciding.{dec-related, dec-ST}
+use Rattle.kripke.proofs.Deciding.{dec-related}
+use Rattle.kripke.proofs.Roads.{dec-ST}
 use Rattle.kripke.proofs.Rounds.{alike-equivalence, related-equivalence, related-down, st-related, st-narrows}
 use Rattle.kripke.proofs.Settling.{stable-later, related-later, classes, rounds-end}
-use Rattle.kripke.proofs.Components.{Mutual, mutual-equivalence, mutual-components, components-mutual, mutual-kept}
+use Rattle.kripke.proofs.Components.{Mutual, mutual-equivalence, mutual-components, component-mutual, components-mutual, mutual-kept}
 use Rattle.kripke.proofs.Stability.{stable-agrees}
-use Rattle.kripke.proofs.Telling.{mark, parted}
+use Rattle.kripke.proofs.Telling.{characteristic, characteristic-depth, characteristic-tells, parted}
 use Rattle.kripke.proofs.Quotient.{reduced-agrees, reduced-smallest}
 use Rattle.kripke.proofs.Truth.{dec-holds}
 
@@ -34,9 +35,9 @@ pub rounds-decided : Rounds-decided
 rounds-decided = dec-related
 
 pub components-kept : Components-kept
-components-kept M formed part count K r s t h l e =
-    let N = components-mutual (M .frame) (Alike M) (alike-equivalence M) part count (dec-related M formed 0) K in
-    st-related (M .frame) (Related M r) (related-equivalence M r) s t (mutual-kept M r s t (N .same s t h l .0 e) .0)
+components-kept M part count K r s t h l e =
+    let p = component-mutual (M .frame) (Alike M) (alike-equivalence M) part count K s t h l e in
+    st-related (M .frame) (Related M r) (related-equivalence M r) s t (mutual-kept M r s t p .0)
 
 pub st-narrow : ST-narrows
 st-narrow = st-narrows
@@ -69,15 +70,18 @@ rounds-settle M formed some =
     let first = w .6 .ranked .below 0 some in
     (w .0, omega (arith, w .8), w .5)
 
+pub class-formula : Class-formula
+class-formula M formed r s h = (characteristic M r s, characteristic-depth M r s, λ t k. characteristic-tells M formed r s t h k)
+
 pub parted-by-formula : Parted-by-formula
 parted-by-formula = parted
 
 pub stable-exact : Stable-exact
 stable-exact M formed r stable s t h k =
     let c = classes M formed r in
-    let f = mark M formed r s in (
+    let tells = characteristic-tells M formed r s in (
       stable-agrees M r (c .0) (c .1 .1 .same) stable s t h k,
-      (λ a. f .1 .1 t k .0 (a (f .0) .0 (f .1 .1 s h .1 (related-equivalence M r .own s h)))),
+      (λ a. tells t h k .0 (a (characteristic M r s) .0 (tells s h h .1 (related-equivalence M r .own s h)))),
     )
 
 pub agrees-reduced : Reduced-agrees
@@ -111,7 +115,7 @@ pub components-once : Components-once
 components-once M formed k m f g A B =
     let number = components-mutual (M .frame) (Alike M) (alike-equivalence M) in
     let d = dec-related M formed 0 in
-    numbering-once (Mutual (M .frame) (Alike M)) (M .frame .size) k m f g (number f k d A) (number g m d B)
+    numbering-once (Mutual (M .frame) (Alike M)) (M .frame .size) k m f g (number f k A d) (number g m B d)
 
 pub classes-there : Classes-there
 classes-there M formed r = let c = classes M formed r in (c .0, c .1 .0, c .1 .1)

@@ -13,7 +13,7 @@ use Rattle.kripke.specs.Relation.{ST, Refined, Related}
 use Rattle.kripke.specs.Numbering.{Ranked, Numbering}
 use Rattle.kripke.specs.Components.{States, Joined, Component, numbered, Components, Cyclic}
 use Rattle.kripke.proofs.Paths.{trail-map, trail-first}
-use Rattle.kripke.proofs.Deciding.{dec-ST}
+use Rattle.kripke.proofs.Roads.{dec-ST}
 use Rattle.kripke.proofs.Rounds.{st-own, st-related, st-more, st-join, between, st-next, refined-equivalence, related-equivalence}
 
 -- s and t reach one another among the states that L relates to them
@@ -105,25 +105,27 @@ module _ (F : Frame) (L : ℕ → ℕ → Type 0) (E : Equivalence (F .size) L) 
           };
     }
 
-    -- and the components are so numbered
-    pub components-mutual : ((s t : ℕ) → Dec (L s t)) → Components F L part count → Numbering (Mutual F L) (F .size) part count
-    components-mutual d K = record {
-      ranked = K .ranked;
-      same = λ s t h l.
-          let i : ℕ = part s in
-          let S = numbered F part i in
-          let C = K .each i (K .ranked .below s h) in
-          let here = part-numbered F part i s h refl in
-          let T : States = λ u. test (Dec·and (dec-ST F L d s u) (dec-ST F L d u s)) in
-          let to : (u : ℕ) → T u ≡ true → Mutual F L s u = λ u a. test-true (Dec·and (dec-ST F L d s u) (dec-ST F L d u s)) a in
-          let from : (u : ℕ) → Mutual F L s u → T u ≡ true = λ u p. true-test (Dec·and (dec-ST F L d s u) (dec-ST F L d u s)) p in (
-            (λ e. joined-mutual S (C .joined) s t here (part-numbered F part i t l (sym e))),
-            (λ p.
-                let inside : (u : ℕ) → S u ≡ true → T u ≡ true = λ u a. from u (joined-mutual S (C .joined) s u here a) in
-                let a = C .largest T (mutual-joined T s to from) inside t (from t p) in
-                sym (numbered-part F part i t a .1)),
-          );
-    }
+    module _ (K : Components F L part count) where
+      -- states of one component reach one another
+      pub component-mutual : (s t : ℕ) → s < F .size → t < F .size → part s ≡ part t → Mutual F L s t
+      component-mutual s t h l e =
+          joined-mutual (numbered F part (part s)) (K .each (part s) (K .ranked .below s h) .joined) s t
+          (part-numbered F part (part s) s h refl) (part-numbered F part (part s) t l (sym e))
+
+      -- and states that reach one another are of one component, the largest
+      mutual-component : ((s t : ℕ) → Dec (L s t)) → (s t : ℕ) → s < F .size → Mutual F L s t → part s ≡ part t
+      mutual-component d s t h p =
+          let here : (u : ℕ) → Dec (Mutual F L s u) = λ u. Dec·and (dec-ST F L d s u) (dec-ST F L d u s) in
+          let all : States = λ u. test (here u) in
+          let from : (u : ℕ) → Mutual F L s u → all u ≡ true = λ u. true-test (here u) in
+          let inside : (u : ℕ) → numbered F part (part s) u ≡ true → all u ≡ true = λ u a.
+              let q = numbered-part F part (part s) u a in from u (component-mutual s u h (q .0) (sym (q .1))) in
+          let a = K .each (part s) (K .ranked .below s h) .largest all (mutual-joined all s (λ u. test-true (here u)) from) inside t (from t p) in
+          sym (numbered-part F part (part s) t a .1)
+
+      -- so the components are numbered by mutual reach
+      pub components-mutual : ((s t : ℕ) → Dec (L s t)) → Numbering (Mutual F L) (F .size) part count
+      components-mutual d = record { ranked = K .ranked; same = λ s t h l. (component-mutual s t h l, mutual-component d s t h) }
 
 -- a component holds a cycle exactly where one of its states moves to one of its states
 pub cyclic-move : (F : Frame) (L : ℕ → ℕ → Type 0) (S : States) → Joined F L S → Cyclic F S ↔ ((s t : ℕ) × Move F s t × (S s ≡ true) × (S t ≡ true))

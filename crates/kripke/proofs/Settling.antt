@@ -69,6 +69,10 @@ related-later M q (suc r) h stable s t p =
           stable-later M q r l stable s t (related-later M q r l stable s t p)
     ]
 
+-- a round that settles is one after which nothing is parted
+pub settles-stable : (M : Kripke) (r : ℕ) → Settles M r → Stable M r
+settles-stable M r S = let q : ℕ = S .0 in subst (Stable M) (sym (S .1)) (stable-next M q (S .2))
+
 -- no round before r parts nothing
 abbrev pub Unsettled : Kripke → ℕ → Type 0
 Unsettled M r = (q : ℕ) → q < r → Stable M q → ⊥

@@ -17,7 +17,8 @@ use Rattle.kripke.proofs.Rounds.{related-equivalence, st-related, st-more}
 use Rattle.worked.specs.Tables.{any, every, row, lines, grid, look}
 use Rattle.worked.specs.Decisions.{Table, among, moves, roads, reached, looped, nexts, near, matches, finer, round, spoken, alike, relation, inside, outside, loops, mutual?}
 use Rattle.worked.proofs.Tests.{Tells, holds, fails, turned, both, either, refuted, implies, equals, tells-bool, tells-eq, tells-any, tells-every, Lists, Draws, lists, draws, lines-look}
-use Rattle.worked.proofs.Closure.{Steps, Road, draws-road}
+use Rattle.kripke.proofs.Roads.{Steps, Road}
+use Rattle.worked.proofs.Closure.{draws-road}
 use Rattle.kripke.proofs.Components.{Mutual}
 
 abbrev pub Aims : List ℕ → ℕ → Type 0

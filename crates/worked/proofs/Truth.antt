@@ -12,7 +12,8 @@ use Rattle.worked.specs.Tables.{any, row, grid, look}
 use Rattle.worked.specs.Decisions.{moves, close, ways, ends, keeps, truth}
 use Rattle.worked.proofs.Tests as tests
 use Rattle.worked.proofs.Tests.{Tells, turned, both, refuted, tells-so, tells-any, Lists, Draws, lists, draws}
-use Rattle.worked.proofs.Closure.{Steps, Road, draws-road}
+use Rattle.kripke.proofs.Roads.{Steps, Road}
+use Rattle.worked.proofs.Closure.{draws-road}
 use Rattle.worked.proofs.Relating.{draws-moves}
 
 module _ (F : Frame) (P Q : ℕ → Type 0) (p q : List Bool) (t : Lists (F .size) p P) (u : Lists (F .size) q Q) where
