@@ -2,8 +2,8 @@ pub mod Rows
 pub mod Tables
 pub mod Sides
 pub mod Rests
-pub mod Counting
 pub mod Finite
+pub mod Counting
 pub mod Ranking
 pub mod Numbering
 pub mod Paths

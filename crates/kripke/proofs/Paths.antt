@@ -23,10 +23,6 @@ module _ (F : Frame) (P : ℕ → Type 0) where
   trail-last zero s t p = subst P (p .0) (p .1)
   trail-last (suc n) s t p = trail-last n (p .0) t (p .3)
 
-  pub trail-ends : (n : ℕ) (s t : ℕ) → s < F .size → Trail (Move F) P n s t → t < F .size
-  trail-ends zero s t h p = rw (p .0) at h
-  trail-ends (suc n) s t h p = trail-ends n (p .0) t (p .2 .2) (p .3)
-
   -- one more move at the end
   pub trail-more : (n : ℕ) (s t u : ℕ) → Trail (Move F) P n s t → Move F t u → P u → Trail (Move F) P (suc n) s u
   trail-more zero s t u p m q = (u, p .1, rw (p .0) m, (refl, q))
@@ -38,10 +34,6 @@ module _ (F : Frame) (P : ℕ → Type 0) where
   trail-join (suc n) k s t u p q =
       let r = trail-join n k (p .0) t u (p .3) q in
       (suc (r .0), (p .0, p .1, p .2, r .1))
-
-  pub stays-first : (n : ℕ) (s : ℕ) → Stays (Move F) P n s → P s
-  stays-first zero s p = p
-  stays-first (suc n) s p = p .1
 
   -- a path with its last move cut off
   pub stays-less : (n : ℕ) (s : ℕ) → Stays (Move F) P (suc n) s → Stays (Move F) P n s
