@@ -1,9 +1,9 @@
 -- The claims, proved.
-use Prim.Native.Nat.{ℕ, suc, _<_, _≤_}
-use mathlib.Core.Path.{_≡_, refl, sym, _∙_, ap, subst}
-use mathlib.Core.Logic.{_↔_, Dec·and}
+use Prim.Native.Nat.{ℕ, suc, _<_}
+use mathlib.Core.Path.{_≡_, subst}
+use mathlib.Core.Logic.{Dec·and}
 use native.Mathlib.Omega.{arith}
-use Rattle.kripke.specs.Models.{Kripke, WellFormed, Alike}
+use Rattle.kripke.specs.Models.{Alike}
 use Rattle.kripke.specs.Formulas.{Holds}
 use Rattle.kripke.specs.Relation.{Related}
 use Rattle.kripke.specs.Numbering.{Numbering}

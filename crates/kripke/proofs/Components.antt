@@ -1,17 +1,16 @@
 -- The components of a frame are the classes of states that reach one another inside their class of related states.
 use Prim.Native.Nat.{ℕ, zero, suc, _<_}
 use mathlib.Core.Path.{_≡_, refl, sym, _∙_, subst}
-use mathlib.Core.Bool.{Bool, true, false, _&&_}
+use mathlib.Core.Bool.{Bool, true, false}
 use mathlib.Core.Logic.{_↔_, Dec·and}
 use lib.Dec.{ltb, eqb}
-use native.Mathlib.Omega.{arith}
 use Rattle.std.proofs.shelf.Tests.{false≢true, ltb-true, lt-ltb, eqb-true, eq-eqb, and-parts, and-from}
 use Rattle.kripke.specs.Models.{Frame, Kripke, Alike}
 use Rattle.kripke.specs.Equivalence.{Equivalence}
 use Rattle.kripke.specs.Paths.{Move, Trail}
 use Rattle.kripke.specs.Relation.{ST, Refined, Related}
-use Rattle.kripke.specs.Numbering.{Ranked, Numbering}
-use Rattle.kripke.specs.Components.{States, Joined, Component, numbered, Components, Cyclic}
+use Rattle.kripke.specs.Numbering.{Numbering}
+use Rattle.kripke.specs.Components.{States, Joined, numbered, Components, Cyclic}
 use Rattle.kripke.proofs.Paths.{trail-map, trail-first}
 use Rattle.kripke.proofs.Roads.{dec-ST}
 use Rattle.kripke.proofs.Rounds.{st-own, st-related, st-more, st-join, between, st-next, refined-equivalence, related-equivalence}

@@ -6,7 +6,7 @@ use native.Mathlib.Omega.{arith}
 use native.Mathlib.Decide.{ℕ-discrete}
 use Rattle.std.proofs.shelf.Tests.{cases-eq}
 use Rattle.kripke.specs.Equivalence.{Equivalence}
-use Rattle.kripke.specs.Numbering.{Ranked, Numbering}
+use Rattle.kripke.specs.Numbering.{Numbering}
 use Rattle.kripke.proofs.Finite.{some-below}
 use Rattle.kripke.proofs.Ranking.{ranked-same, ranked-count}
 

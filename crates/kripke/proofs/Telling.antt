@@ -7,10 +7,10 @@ use native.Mathlib.Omega.{arith}
 use native.Mathlib.Decide.{ℕ-discrete, decLt}
 use Rattle.kripke.specs.Models.{Frame, Kripke, WellFormed, Alike}
 use Rattle.kripke.specs.Equivalence.{Equivalence}
-use Rattle.kripke.specs.Paths.{Move, Trail, Until, Stays}
+use Rattle.kripke.specs.Paths.{Move}
 use Rattle.kripke.specs.Formulas.{Formula, top, word, neg, or, until, globally, depth, Holds}
 use Rattle.kripke.specs.Relation.{ST, NEXT, LOOP, Matched, Refined, Related}
-use Rattle.kripke.proofs.Paths.{trail-map, stays-map, Arrives, until-behind, until-split}
+use Rattle.kripke.proofs.Paths.{trail-map, stays-map, until-behind, until-split}
 use Rattle.kripke.proofs.Rounds.{st-related, st-more, related-equivalence}
 use Rattle.kripke.proofs.Stability.{loop-stays}
 use Rattle.kripke.proofs.Truth.{dec-holds}

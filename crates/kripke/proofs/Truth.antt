@@ -1,6 +1,5 @@
 -- Truth of a formula at a state can be decided.
 use Prim.Native.Nat.{ℕ, zero, suc, _<_}
-use mathlib.Core.Path.{_≡_}
 use mathlib.Core.Bool.{true, Bool-discrete}
 use mathlib.Core.Logic.{_⊎_, inl, inr, Dec·and, Dec·not, Dec·of-iff}
 use Rattle.kripke.specs.Models.{Frame, Kripke}

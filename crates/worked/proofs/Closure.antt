@@ -1,12 +1,11 @@
 -- The table of roads, closed by letting one more inner place in at a time.
 use Prim.Native.Nat.{ℕ, zero, suc, _<_, _≤_}
-use mathlib.Core.Bool.{Bool, _&&_, _||_}
-use mathlib.Core.List.{List}
+use mathlib.Core.Bool.{_&&_, _||_}
 use native.Mathlib.Omega.{arith}
 use Rattle.kripke.proofs.Roads.{Road, Via, via-road, road-via}
-use Rattle.worked.specs.Tables.{look, grid}
+use Rattle.worked.specs.Tables.{look}
 use Rattle.worked.specs.Decisions.{Table, widen, close}
-use Rattle.worked.proofs.Tests.{Tells, turned, both, either, Draws, draws}
+use Rattle.worked.proofs.Tests.{turned, both, either, Draws, draws}
 
 module _ (n : ℕ) (E : ℕ → ℕ → Type 0) (m : Table) (t : Draws n m E) where
   draws-via : (k : ℕ) → k ≤ n → Draws n (close n k m) (Via E k)

@@ -1,8 +1,8 @@
 -- The tables of a round tell ST, NEXT, LOOP and the next relation.
-use Prim.Native.Nat.{ℕ, zero, suc, _<_, _≤_}
-use mathlib.Core.Path.{_≡_, refl, sym, _∙_, subst}
-use mathlib.Core.Bool.{Bool, true, false, not, _&&_, _||_, Bool·beq}
-use mathlib.Core.Logic.{_↔_, _⊎_, inl, inr}
+use Prim.Native.Nat.{ℕ, zero, suc, _<_}
+use mathlib.Core.Path.{_≡_, sym, _∙_}
+use mathlib.Core.Bool.{Bool, false, not, _&&_, _||_, Bool·beq}
+use mathlib.Core.Logic.{_⊎_, inl, inr}
 use mathlib.Core.List.{List, [], _∷_}
 use native.Mathlib.Omega.{arith}
 use native.Mathlib.Decide.{decLt}
@@ -14,9 +14,9 @@ use Rattle.kripke.specs.Paths.{Move, Trail}
 use Rattle.kripke.specs.Relation.{ST, NEXT, LOOP, Matched, Refined, Related}
 use Rattle.kripke.proofs.Paths.{trail-map, trail-first}
 use Rattle.kripke.proofs.Rounds.{related-equivalence, st-related, st-more}
-use Rattle.worked.specs.Tables.{any, every, row, lines, grid, look}
+use Rattle.worked.specs.Tables.{any, every, row, grid, look}
 use Rattle.worked.specs.Decisions.{Table, among, moves, roads, reached, looped, nexts, near, matches, finer, round, spoken, alike, relation, inside, outside, loops, mutual?}
-use Rattle.worked.proofs.Tests.{Tells, holds, fails, turned, both, either, refuted, implies, equals, tells-bool, tells-eq, tells-any, tells-every, Lists, Draws, lists, draws, lines-look}
+use Rattle.worked.proofs.Tests.{Tells, fails, turned, both, either, refuted, implies, equals, tells-bool, tells-eq, tells-any, tells-every, Lists, Draws, lists, draws, lines-look}
 use Rattle.kripke.proofs.Roads.{Steps, Road}
 use Rattle.worked.proofs.Closure.{draws-road}
 use Rattle.kripke.proofs.Components.{Mutual}
