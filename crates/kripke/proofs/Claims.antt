@@ -1,5 +1,5 @@
 -- The claims, proved.
-use Prim.Native.Nat.{ℕ, suc, _<_}
+use Prim.Native.Nat.{ℕ, _<_}
 use mathlib.Core.Path.{_≡_, subst}
 use mathlib.Core.Logic.{Dec·and}
 use native.Mathlib.Omega.{arith}
@@ -103,7 +103,7 @@ pub truth-decided : Truth-decided
 truth-decided = dec-holds
 
 pub numbers-once : Numbers-once
-numbers-once n k m f g A B both = (ranked-count n k m f g A B both, λ s h. ranked-same n k m f g A B both (suc s) s (omega arith) h)
+numbers-once n k m f g A B both = (ranked-count n k m f g A B both, ranked-same n k m f g A B both)
 
 numbering-once : (C : ℕ → ℕ → Type 0) (n k m : ℕ) (f g : ℕ → ℕ) → Numbering C n f k → Numbering C n g m → (k ≡ m) × ((s : ℕ) → s < n → f s ≡ g s)
 numbering-once C n k m f g A B = (numbering-count C n k m f g A B, numbering-same C n k m f g A B)
@@ -125,6 +125,6 @@ components-there M formed =
     let L = Alike M in
     let E = alike-equivalence M in
     let d = dec-related M formed 0 in
-    let w = numbered (M .frame .size) (Mutual (M .frame) L) (mutual-equivalence (M .frame) L E)
-          (λ s t. Dec·and (dec-ST (M .frame) L d s t) (dec-ST (M .frame) L d t s)) in
+    let near : (s t : ℕ) → Dec (Mutual (M .frame) L s t) = λ s t. Dec·and (dec-ST (M .frame) L d s t) (dec-ST (M .frame) L d t s) in
+    let w = numbered (M .frame .size) (Mutual (M .frame) L) (mutual-equivalence (M .frame) L E) near in
     (w .0, w .1 .0, mutual-components (M .frame) L E (w .0) (w .1 .0) (w .1 .1))

@@ -10,7 +10,7 @@ use Rattle.kripke.specs.Equivalence.{Equivalence}
 use Rattle.kripke.specs.Paths.{Move, Trail}
 use Rattle.kripke.specs.Relation.{ST, Refined, Related}
 use Rattle.kripke.specs.Numbering.{Numbering}
-use Rattle.kripke.specs.Components.{States, Joined, numbered, Components, Cyclic}
+use Rattle.kripke.specs.Components.{States, Joined, Component, numbered, Components, Cyclic}
 use Rattle.kripke.proofs.Paths.{trail-map, trail-first}
 use Rattle.kripke.proofs.Roads.{dec-ST}
 use Rattle.kripke.proofs.Rounds.{st-own, st-related, st-more, st-join, between, st-next, refined-equivalence, related-equivalence}
@@ -85,24 +85,24 @@ module _ (F : Frame) (L : ℕ → ℕ → Type 0) (E : Equivalence (F .size) L) 
   module _ (part : ℕ → ℕ) (count : ℕ) where
     -- a search that numbers by mutual reach has found the components
     pub mutual-components : Numbering (Mutual F L) (F .size) part count → Components F L part count
-    mutual-components N = record {
-      ranked = N .ranked;
-      each = λ i h.
-          let s = N .ranked .member i h in
-          let S = numbered F part i in
-          let to : (u : ℕ) → S u ≡ true → Mutual F L (s .0) u = λ u a.
-              let p = numbered-part F part i u a in
-              N .same (s .0) u (s .1) (p .0) .0 (s .2 ∙ sym (p .1)) in
-          let from : (u : ℕ) → Mutual F L (s .0) u → S u ≡ true = λ u p.
-              let l = mutual-equivalence .members (s .0) u p .1 in
-              part-numbered F part i u l (sym (N .same (s .0) u (s .1) l .1 p) ∙ s .2) in
-          let here = part-numbered F part i (s .0) (s .1) (s .2) in
-          record {
-            some = (s .0, here);
-            joined = mutual-joined S (s .0) to from;
-            largest = λ T J inside u a. from u (joined-mutual T J (s .0) u (inside (s .0) here) a);
-          };
-    }
+    mutual-components N = record { ranked = N .ranked; each = λ i h. let s = N .ranked .member i h in component i (s .0) (s .1) (s .2) }
+      where
+        to : (i s : ℕ) → s < F .size → part s ≡ i → (u : ℕ) → numbered F part i u ≡ true → Mutual F L s u
+        to i s h e u a = let p = numbered-part F part i u a in N .same s u h (p .0) .0 (e ∙ sym (p .1))
+
+        from : (i s : ℕ) → s < F .size → part s ≡ i → (u : ℕ) → Mutual F L s u → numbered F part i u ≡ true
+        from i s h e u p =
+            let l = mutual-equivalence .members s u p .1 in
+            part-numbered F part i u l (sym (N .same s u h l .1 p) ∙ e)
+
+        component : (i s : ℕ) → s < F .size → part s ≡ i → Component F L (numbered F part i)
+        component i s h e =
+            let here = part-numbered F part i s h e in
+            record {
+              some = (s, here);
+              joined = mutual-joined (numbered F part i) s (to i s h e) (from i s h e);
+              largest = λ T J inside u a. from i s h e u (joined-mutual T J s u (inside s here) a);
+            }
 
     module _ (K : Components F L part count) where
       -- states of one component reach one another
@@ -114,13 +114,23 @@ module _ (F : Frame) (L : ℕ → ℕ → Type 0) (E : Equivalence (F .size) L) 
       -- and states that reach one another are of one component, the largest
       mutual-component : ((s t : ℕ) → Dec (L s t)) → (s t : ℕ) → s < F .size → Mutual F L s t → part s ≡ part t
       mutual-component d s t h p =
-          let here : (u : ℕ) → Dec (Mutual F L s u) = λ u. Dec·and (dec-ST F L d s u) (dec-ST F L d u s) in
-          let all : States = λ u. test (here u) in
-          let from : (u : ℕ) → Mutual F L s u → all u ≡ true = λ u. true-test (here u) in
-          let inside : (u : ℕ) → numbered F part (part s) u ≡ true → all u ≡ true = λ u a.
-              let q = numbered-part F part (part s) u a in from u (component-mutual s u h (q .0) (sym (q .1))) in
-          let a = K .each (part s) (K .ranked .below s h) .largest all (mutual-joined all s (λ u. test-true (here u)) from) inside t (from t p) in
-          sym (numbered-part F part (part s) t a .1)
+          let C = K .each (part s) (K .ranked .below s h) in
+          sym (numbered-part F part (part s) t (C .largest all (mutual-joined all s to from) inside t (from t p)) .1)
+        where
+          near : (u : ℕ) → Dec (Mutual F L s u)
+          near u = Dec·and (dec-ST F L d s u) (dec-ST F L d u s)
+
+          all : States
+          all u = test (near u)
+
+          to : (u : ℕ) → all u ≡ true → Mutual F L s u
+          to u = test-true (near u)
+
+          from : (u : ℕ) → Mutual F L s u → all u ≡ true
+          from u = true-test (near u)
+
+          inside : (u : ℕ) → numbered F part (part s) u ≡ true → all u ≡ true
+          inside u a = let q = numbered-part F part (part s) u a in from u (component-mutual s u h (q .0) (sym (q .1)))
 
       -- so the components are numbered by mutual reach
       pub components-mutual : ((s t : ℕ) → Dec (L s t)) → Numbering (Mutual F L) (F .size) part count

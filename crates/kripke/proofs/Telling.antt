@@ -195,7 +195,7 @@ module _ (M : Kripke) (C : ℕ → ℕ → Type 0) (E : Equivalence (M .frame .s
             both-holds M (agreeing M loop s) rest t .1 (
               agreeing-holds M loop s t .1 ((λ p. b .1 (w .1 .0 (a .0 p))), (λ p. a .1 (w .1 .1 (b .0 p)))),
               all-holds M (F .size) (λ u. agreeing M (leave u) s) t .1
-              (λ u i. agreeing-holds M (leave u) s t .1 (carried s s t own (w .0) (w .2) u i, carried s t s (w .0) own (w .3) u i)),
+                  (λ u i. agreeing-holds M (leave u) s t .1 (carried s s t own (w .0) (w .2) u i, carried s t s (w .0) own (w .3) u i)),
             ),
           )
 
@@ -203,7 +203,7 @@ further-depth : (M : Kripke) (χ : ℕ → Formula) (r : ℕ) → ((s : ℕ) →
 unfolding further both
 further-depth M χ r d s =
     let leave = all-depth (M .frame .size) (λ u. agreeing M (until (χ s) (χ u)) s) (suc r)
-          (λ u. omega (arith, agreeing-depth M (until (χ s) (χ u)) s, d s, d u)) in
+    (λ u. omega (arith, agreeing-depth M (until (χ s) (χ u)) s, d s, d u)) in
     omega (arith, d s, agreeing-depth M (globally (χ s)) s)
 
 -- the formula of the class of s after r rounds
@@ -225,10 +225,14 @@ words-tell : (M : Kripke) → WellFormed M → Tells M (Alike M) (characteristic
 unfolding characteristic
 words-tell M formed s t h k =
     let p = all-holds M (M .labels .count) (λ a. agreeing M (word a) s) t in (
-      (λ w. (h, k, λ a. elim (decLt a (M .labels .count)) [
-        | yes l ↦ same-bool (M .labels .words s a) (M .labels .words t a) (agreeing-holds M (word a) s t .0 (p .0 w a l))
-        | no o ↦ formed .labels .within s a (omega arith) ∙ sym (formed .labels .within t a (omega arith))
-      ])),
+      (λ w. (
+        h,
+        k,
+        λ a. elim (decLt a (M .labels .count)) [
+          | yes l ↦ same-bool (M .labels .words s a) (M .labels .words t a) (agreeing-holds M (word a) s t .0 (p .0 w a l))
+          | no o ↦ formed .labels .within s a (omega arith) ∙ sym (formed .labels .within t a (omega arith))
+        ],
+      )),
       (λ e. p .1 (λ a _. agreeing-holds M (word a) s t .1 ((λ x. sym (e .2 a) ∙ x), (λ x. e .2 a ∙ x)))),
     )
 

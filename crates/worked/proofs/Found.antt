@@ -44,8 +44,8 @@ found M formed k h r m l t =
     let n : ℕ = M .frame .size in
     let c = classes? M r in
     let p = true-tells (both (tells-lt 0 n) (both (tells-total (M .frame)) (both (tells-eq (components? M .count) k)
-          (both (tells-eq (classes? M 0 .count) h) (both (tells-eq (settling? M) r)
-          (both (tells-eq (c .count) m) (tells-every n (λ s. at c s ≡ getD l s 0) (λ s. eqb (at c s) (getD l s 0)) (λ s _. tells-eq (at c s) (getD l s 0))))))))) t in
+    (both (tells-eq (classes? M 0 .count) h) (both (tells-eq (settling? M) r)
+    (both (tells-eq (c .count) m) (tells-every n (λ s. at c s ≡ getD l s 0) (λ s. eqb (at c s) (getD l s 0)) (λ s _. tells-eq (at c s) (getD l s 0))))))))) t in
     let q = p .1 .1 in
     record {
       formed = formed;

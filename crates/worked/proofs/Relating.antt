@@ -169,7 +169,6 @@ module _ (F : Frame) (C : ℕ → ℕ → Type 0) (E : Equivalence (F .size) C) 
         (λ i j h k. turned (λ p. (p .0, p .1 .0, p .1 .1 .0, p .1 .1 .1)) (λ p. (p .0, (p .1, (p .2, p .3))))
         (both (t i j h k) (both (equals (lists-looped i h) (lists-looped j k)) (both (draws-matches i j h k) (draws-matches j i k h)))))
 
-
 module _ (M : Kripke) (formed : WellFormed M) where
   abbrev said : ℕ → ℕ → Bool
   said s a = look (spoken M) s a
