@@ -26,7 +26,7 @@ Rounds-decided = (M : Kripke) → WellFormed M → (r s t : ℕ) → Dec (Relate
 -- states of one component are never parted
 abbrev pub Components-kept : Type 0
 Components-kept =
-    (M : Kripke) → WellFormed M → (part : ℕ → ℕ) (count : ℕ) → Components (M .frame) (Alike M) part count →
+    (M : Kripke) (part : ℕ → ℕ) (count : ℕ) → Components (M .frame) (Alike M) part count →
     (r s t : ℕ) → s < M .frame .size → t < M .frame .size → part s ≡ part t → Related M r s t
 
 -- ST of the next round is the old ST, of which what is still related is kept
@@ -50,6 +50,12 @@ abbrev pub Rounds-counted : Type 0
 Rounds-counted =
     (M : Kripke) → WellFormed M → (r h m : ℕ) (a b : ℕ → ℕ) → Settles M r →
     Numbering (Related M 0) (M .frame .size) a h → Numbering (Related M r) (M .frame .size) b m → h + r ≤ m + 1
+
+-- for each state a formula nested at most r deep holds at just the states that C_r relates to it
+abbrev pub Class-formula : Type 0
+Class-formula =
+    (M : Kripke) → WellFormed M → (r s : ℕ) → s < M .frame .size →
+    (f : Formula) × (depth f ≤ r) × ((t : ℕ) → t < M .frame .size → Holds M f t ↔ Related M r s t)
 
 -- what r rounds part, a formula nested at most r deep tells apart: it holds at the one and not at the other
 abbrev pub Parted-by-formula : Type 0

@@ -9,7 +9,7 @@ use lib.ListN.{getD}
 use lib.Dec.{eqb, lit<}
 use Rattle.std.proofs.shelf.Tests.{le-ltb}
 use Rattle.kripke.specs.Words.{Lawful, bit}
-use Rattle.kripke.specs.Models.{Kripke, WellFormed, Alike}
+use Rattle.kripke.specs.Models.{WellFormed, Alike}
 use Rattle.kripke.specs.Kinds.{beside, rested}
 use Rattle.kripke.specs.Formulas.{Formula, top, word, neg, until, globally, Holds}
 use Rattle.kripke.specs.Relation.{LOOP}

@@ -1,13 +1,12 @@
 -- What is computed is what the definitions say.
-use Prim.Native.Nat.{ℕ, zero, suc, _<_}
-use mathlib.Core.Path.{_≡_, refl}
-use mathlib.Core.Bool.{Bool, true, not, _&&_, _||_}
-use mathlib.Core.List.{List, [], _∷_}
+use Prim.Native.Nat.{ℕ, suc, _<_}
+use mathlib.Core.Path.{refl}
+use mathlib.Core.Bool.{Bool, not, _&&_, _||_}
 use native.Mathlib.Omega.{arith}
 use native.Mathlib.Decide.{decLt}
-use lib.ListN.{length, getD}
+use lib.ListN.{length}
 use lib.Dec.{ltb}
-use Rattle.kripke.specs.Models.{Frame, Kripke, WellFormed, TotalRow, Total, Alike, nowhere}
+use Rattle.kripke.specs.Models.{Frame, Kripke, WellFormed, Total, Alike}
 use Rattle.kripke.specs.Relation.{Related, Stable}
 use Rattle.kripke.proofs.Rounds.{alike-equivalence, related-equivalence}
 use Rattle.kripke.proofs.Components.{Mutual, mutual-equivalence, mutual-components}
@@ -15,7 +14,7 @@ use Rattle.kripke.proofs.Claims.{rounds-settle}
 use Rattle.worked.specs.Tables.{every, seek, look}
 use Rattle.worked.specs.Decisions.{relation, mutual?, ranks, at, steady, settling?, below, total?}
 use Rattle.worked.specs.Claims.{Relation-computed, ST-computed, NEXT-computed, LOOP-computed, Classes-computed, Components-computed, Settling-computed, Truth-computed, Totality-computed, Reduction-computed}
-use Rattle.worked.proofs.Tests.{Tells, holds, true-tells, tells-true, turned, both, implies, tells-lt, tells-every}
+use Rattle.worked.proofs.Tests.{Tells, true-tells, tells-true, turned, both, implies, tells-lt, tells-every}
 use Rattle.worked.proofs.Relating.{draws-relation, draws-inside, draws-outside, lists-loops, draws-mutual}
 use Rattle.worked.proofs.Ranks.{tells-seek, ranked-right}
 use Rattle.worked.proofs.Truth.{lists-truth}

@@ -1,6 +1,6 @@
 -- What is found in a model, by one test.
-use Prim.Native.Nat.{ℕ, zero, suc, _<_}
-use mathlib.Core.Path.{_≡_, refl, sym, _∙_, subst}
+use Prim.Native.Nat.{ℕ, _<_}
+use mathlib.Core.Path.{_≡_, sym, _∙_, subst}
 use mathlib.Core.Bool.{Bool, true, _&&_}
 use mathlib.Core.List.{List}
 use native.Mathlib.Omega.{arith}
@@ -8,12 +8,12 @@ use lib.ListN.{getD}
 use lib.Dec.{eqb, ltb}
 use Rattle.kripke.specs.Models.{Kripke, WellFormed}
 use Rattle.kripke.specs.Relation.{Related, Settles}
-use Rattle.kripke.specs.Numbering.{Ranked, Numbering}
+use Rattle.kripke.specs.Numbering.{Numbering}
 use Rattle.kripke.specs.Components.{Components}
 use Rattle.worked.specs.Tables.{every}
-use Rattle.worked.specs.Decisions.{relation, ranks, classes?, components?, settling?, at, total?}
+use Rattle.worked.specs.Decisions.{classes?, components?, settling?, at, total?}
 use Rattle.worked.specs.Cases.{of, Found}
-use Rattle.worked.proofs.Tests.{Tells, true-tells, both, tells-eq, tells-lt, tells-every}
+use Rattle.worked.proofs.Tests.{true-tells, both, tells-eq, tells-lt, tells-every}
 use Rattle.worked.proofs.Claims.{classes-computed, components-computed, settling-computed, tells-total}
 
 unfoldable pub found? : Kripke → (k h r m : ℕ) → List ℕ → Bool
@@ -44,8 +44,8 @@ found M formed k h r m l t =
     let n : ℕ = M .frame .size in
     let c = classes? M r in
     let p = true-tells (both (tells-lt 0 n) (both (tells-total (M .frame)) (both (tells-eq (components? M .count) k)
-          (both (tells-eq (classes? M 0 .count) h) (both (tells-eq (settling? M) r)
-          (both (tells-eq (c .count) m) (tells-every n (λ s. at c s ≡ getD l s 0) (λ s. eqb (at c s) (getD l s 0)) (λ s _. tells-eq (at c s) (getD l s 0))))))))) t in
+    (both (tells-eq (classes? M 0 .count) h) (both (tells-eq (settling? M) r)
+    (both (tells-eq (c .count) m) (tells-every n (λ s. at c s ≡ getD l s 0) (λ s. eqb (at c s) (getD l s 0)) (λ s _. tells-eq (at c s) (getD l s 0))))))))) t in
     let q = p .1 .1 in
     record {
       formed = formed;

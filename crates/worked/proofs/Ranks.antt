@@ -1,6 +1,6 @@
 -- The numbers that are computed are those by first member.
 use Prim.Native.Nat.{ℕ, zero, suc, _+_, _<_, _≤_}
-use mathlib.Core.Path.{_≡_, refl, sym, _∙_, subst}
+use mathlib.Core.Path.{_≡_, refl, _∙_, subst}
 use mathlib.Core.Bool.{Bool, true, false}
 use mathlib.Core.List.{List, [], _∷_, _++_}
 use native.Mathlib.Omega.{arith}
@@ -44,17 +44,17 @@ module _ (n : ℕ) (C : ℕ → ℕ → Type 0) (E : Equivalence n C) (m : Table
       let x : ℕ = getD (w .numbers) j 0 in (
         (length-append (w .numbers) (x ∷ []) ∙ omega (arith, p .0)),
         subst (λ i. Numbering C i (at (joins true j w)) (w .count)) (omega arith)
-        (number-old C (E .turn) (E .join) k (w .count) (E .own k h) (at w) (at (joins true j w)) (p .1)
-          (λ i b. getD-append-left (w .numbers) (x ∷ []) 0 i (omega (arith, p .0))) j l (found l)
-          (subst (λ i. getD (w .numbers ++ (x ∷ [])) i 0 ≡ x) (p .0) (at-last (w .numbers) x))),
+            (number-old C (E .turn) (E .join) k (w .count) (E .own k h) (at w) (at (joins true j w)) (p .1)
+            (λ i b. getD-append-left (w .numbers) (x ∷ []) 0 i (omega (arith, p .0))) j l (found l)
+            (subst (λ i. getD (w .numbers ++ (x ∷ [])) i 0 ≡ x) (p .0) (at-last (w .numbers) x))),
       )
   right-next k h w p j found none false (fails o) =
       let x : ℕ = w .count in (
         (length-append (w .numbers) (x ∷ []) ∙ omega (arith, p .0)),
         subst (λ i. Numbering C i (at (joins false j w)) (w .count + 1)) (omega arith)
-        (number-new C (E .turn) (E .join) k (w .count) (E .own k h) (at w) (at (joins false j w)) (p .1)
-          (λ i b. getD-append-left (w .numbers) (x ∷ []) 0 i (omega (arith, p .0))) (λ i b q. none i b (omega arith) q)
-          (subst (λ i. getD (w .numbers ++ (x ∷ [])) i 0 ≡ x) (p .0) (at-last (w .numbers) x))),
+            (number-new C (E .turn) (E .join) k (w .count) (E .own k h) (at w) (at (joins false j w)) (p .1)
+            (λ i b. getD-append-left (w .numbers) (x ∷ []) 0 i (omega (arith, p .0))) (λ i b q. none i b (omega arith) q)
+            (subst (λ i. getD (w .numbers ++ (x ∷ [])) i 0 ≡ x) (p .0) (at-last (w .numbers) x))),
       )
 
   right : (k : ℕ) → k ≤ n → Right k (ranks m k)

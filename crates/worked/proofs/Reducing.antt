@@ -1,15 +1,14 @@
 -- The test whether a model is the reduced model of another.
-use Prim.Native.Nat.{ℕ, zero, suc, _<_}
+use Prim.Native.Nat.{ℕ, _<_}
 use mathlib.Core.Path.{_≡_, refl, sym, _∙_, subst}
-use mathlib.Core.Bool.{Bool, true, false, not, _&&_, _||_, Bool·beq}
+use mathlib.Core.Bool.{false, not, _&&_, _||_, Bool·beq}
 use mathlib.Core.Logic.{_↔_}
-use mathlib.Core.List.{List}
 use native.Mathlib.Omega.{arith}
 use native.Mathlib.Decide.{decLt}
-use lib.ListN.{length, getD}
+use lib.ListN.{getD}
 use lib.Dec.{eqb}
 use Rattle.kripke.specs.Words.{SameWords}
-use Rattle.kripke.specs.Models.{Kripke, WellFormed, nowhere}
+use Rattle.kripke.specs.Models.{Kripke, WellFormed}
 use Rattle.kripke.specs.Paths.{Move}
 use Rattle.kripke.specs.Relation.{NEXT, LOOP, Related}
 use Rattle.kripke.specs.Numbering.{First}

@@ -1,8 +1,8 @@
 -- The tables of a round tell ST, NEXT, LOOP and the next relation.
-use Prim.Native.Nat.{ℕ, zero, suc, _<_, _≤_}
-use mathlib.Core.Path.{_≡_, refl, sym, _∙_, subst}
-use mathlib.Core.Bool.{Bool, true, false, not, _&&_, _||_, Bool·beq}
-use mathlib.Core.Logic.{_↔_, _⊎_, inl, inr}
+use Prim.Native.Nat.{ℕ, zero, suc, _<_}
+use mathlib.Core.Path.{_≡_, sym, _∙_}
+use mathlib.Core.Bool.{Bool, false, not, _&&_, _||_, Bool·beq}
+use mathlib.Core.Logic.{_⊎_, inl, inr}
 use mathlib.Core.List.{List, [], _∷_}
 use native.Mathlib.Omega.{arith}
 use native.Mathlib.Decide.{decLt}
@@ -14,10 +14,11 @@ use Rattle.kripke.specs.Paths.{Move, Trail}
 use Rattle.kripke.specs.Relation.{ST, NEXT, LOOP, Matched, Refined, Related}
 use Rattle.kripke.proofs.Paths.{trail-map, trail-first}
 use Rattle.kripke.proofs.Rounds.{related-equivalence, st-related, st-more}
-use Rattle.worked.specs.Tables.{any, every, row, lines, grid, look}
+use Rattle.worked.specs.Tables.{any, every, row, grid, look}
 use Rattle.worked.specs.Decisions.{Table, among, moves, roads, reached, looped, nexts, near, matches, finer, round, spoken, alike, relation, inside, outside, loops, mutual?}
-use Rattle.worked.proofs.Tests.{Tells, holds, fails, turned, both, either, refuted, implies, equals, tells-bool, tells-eq, tells-any, tells-every, Lists, Draws, lists, draws, lines-look}
-use Rattle.worked.proofs.Closure.{Steps, Road, draws-road}
+use Rattle.worked.proofs.Tests.{Tells, fails, turned, both, either, refuted, implies, equals, tells-bool, tells-eq, tells-any, tells-every, Lists, Draws, lists, draws, lines-look}
+use Rattle.kripke.proofs.Roads.{Steps, Road}
+use Rattle.worked.proofs.Closure.{draws-road}
 use Rattle.kripke.proofs.Components.{Mutual}
 
 abbrev pub Aims : List ℕ → ℕ → Type 0
@@ -167,7 +168,6 @@ module _ (F : Frame) (C : ℕ → ℕ → Type 0) (E : Equivalence (F .size) C) 
         (λ i j. look m i j && (Bool·beq (getD (looped n R W) i false) (getD (looped n R W) j false) && (look Z i j && look Z j i)))
         (λ i j h k. turned (λ p. (p .0, p .1 .0, p .1 .1 .0, p .1 .1 .1)) (λ p. (p .0, (p .1, (p .2, p .3))))
         (both (t i j h k) (both (equals (lists-looped i h) (lists-looped j k)) (both (draws-matches i j h k) (draws-matches j i k h)))))
-
 
 module _ (M : Kripke) (formed : WellFormed M) where
   abbrev said : ℕ → ℕ → Bool

@@ -1,15 +1,12 @@
 -- Tests of a row of moves.
 use Prim.Native.Nat.{ℕ, zero, suc, _<_}
-use mathlib.Core.Path.{_≡_}
-use mathlib.Core.Bool.{Bool, _&&_}
 use mathlib.Core.List.{List, [], _∷_}
 use native.Mathlib.Omega.{arith}
 use lib.ListN.{length, getD}
-use lib.Dec.{ltb}
 use Rattle.kripke.specs.Models.{Frame, nowhere}
 use Rattle.kripke.specs.Paths.{Move}
 use Rattle.kripke.specs.Reduced.{Rising}
-use Rattle.worked.specs.Decisions.{among, below, rising?, move?}
+use Rattle.worked.specs.Decisions.{below, rising?, move?}
 use Rattle.worked.proofs.Tests.{Tells, holds, turned, both, tells-lt}
 use Rattle.worked.proofs.Relating.{tells-among}
 

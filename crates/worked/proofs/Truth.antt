@@ -1,6 +1,6 @@
 -- The row of a formula tells where it holds.
 use Prim.Native.Nat.{ℕ, zero, suc, _<_}
-use mathlib.Core.Path.{_≡_, refl, sym, subst}
+use mathlib.Core.Path.{refl, sym, subst}
 use mathlib.Core.Bool.{Bool, true, false, not, _&&_, _||_}
 use mathlib.Core.Logic.{_⊎_, inl, inr}
 use mathlib.Core.List.{List}
@@ -9,10 +9,11 @@ use Rattle.kripke.specs.Models.{Frame, Kripke}
 use Rattle.kripke.specs.Paths.{Move, Until, Stays}
 use Rattle.kripke.specs.Formulas.{Formula, top, word, neg, or, until, globally, Holds}
 use Rattle.worked.specs.Tables.{any, row, grid, look}
-use Rattle.worked.specs.Decisions.{moves, close, ways, ends, keeps, truth}
+use Rattle.worked.specs.Decisions.{moves, ways, ends, keeps, truth}
 use Rattle.worked.proofs.Tests as tests
-use Rattle.worked.proofs.Tests.{Tells, turned, both, refuted, tells-so, tells-any, Lists, Draws, lists, draws}
-use Rattle.worked.proofs.Closure.{Steps, Road, draws-road}
+use Rattle.worked.proofs.Tests.{turned, both, refuted, tells-so, tells-any, Lists, Draws, lists, draws}
+use Rattle.kripke.proofs.Roads.{Steps, Road}
+use Rattle.worked.proofs.Closure.{draws-road}
 use Rattle.worked.proofs.Relating.{draws-moves}
 
 module _ (F : Frame) (P Q : ℕ → Type 0) (p q : List Bool) (t : Lists (F .size) p P) (u : Lists (F .size) q Q) where
