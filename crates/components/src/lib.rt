@@ -1,0 +1,3 @@
+//! The components of a model, found by one walk in lent memory.
+
+pub mod stack;
