@@ -21,4 +21,4 @@ rested-sound m w = record {
 }
 
 pub rested-formed : (M : Kripke) → WellFormed M → WellFormed (rested M)
-rested-formed M w = record { frame = rested-sound (M .frame) (w .frame); labels = w .labels; }
+rested-formed M w = record { frame = rested-sound (M .frame) (w .frame); labels = w .labels }

@@ -23,16 +23,16 @@ side-rows : (l r : Frame) (P : List ℕ → Type 0) (s : ℕ)
     → P (beside-frame l r .row s)
 side-rows l r P s none one two =
     cond-both (ltb s (beside-frame l r .size)) _ [] P
-      (λ e. cond-both (ltb s (l .size)) _ _ P (λ _. one (ltb-true s _ e)) (λ _. two (ltb-true s _ e)))
-      (λ _. none)
+    (λ e. cond-both (ltb s (l .size)) _ _ P (λ _. one (ltb-true s _ e)) (λ _. two (ltb-true s _ e)))
+    (λ _. none)
 
 pub beside-sound : (l r : Frame) → SoundFrame l → SoundFrame r → SoundFrame (beside-frame l r)
 beside-sound l r wl wr = record {
   few-states = grind (arith, tells);
   few-moves = λ s. side-rows l r (λ row. length row ≤ 4096) s (omega arith) (λ _. wl .few-moves s) (λ _. simp length-map (wr .few-moves (s - l .size)));
   lands = λ s. side-rows l r (All (Lands (beside-frame l r .size))) s tt
-    (λ h. all-weaker (Lands (l .size)) (Lands (beside-frame l r .size)) (λ t e. grind (arith, tells)) (l .row s) (wl .lands s))
-    (λ h. all-map (Lands (beside-frame l r .size)) (shifted (l .size)) (r .row (s - l .size)) (all-weaker (Lands (r .size)) (λ t. Lands (beside-frame l r .size) (shifted (l .size) t)) (λ t e. grind (arith, tells)) (r .row (s - l .size)) (wr .lands (s - l .size))));
+      (λ h. all-weaker (Lands (l .size)) (Lands (beside-frame l r .size)) (λ t e. grind (arith, tells)) (l .row s) (wl .lands s))
+      (λ h. all-map (Lands (beside-frame l r .size)) (shifted (l .size)) (r .row (s - l .size)) (all-weaker (Lands (r .size)) (λ t. Lands (beside-frame l r .size) (shifted (l .size) t)) (λ t e. grind (arith, tells)) (r .row (s - l .size)) (wr .lands (s - l .size))));
   no-moves = λ s h. grind (arith, tells);
 }
 

@@ -26,15 +26,15 @@ told n t = cond (ltb t n) t nowhere
 abbrev pub listed-frame : {L : Type 0} → List L → List ℕ → List ℕ → Frame
 listed-frame labels offsets targets =
     let n : ℕ = listed-size labels offsets in
-    record { size = n; row = λ s. map (told n) (table-row n offsets targets s); }
+    record { size = n; row = λ s. map (told n) (table-row n offsets targets s) }
 
 abbrev pub listed-labels : {L : Type 0} → ℕ → (L → Words) → List L → Labelling
-listed-labels count means labels = record { count = count; words = λ s a. getD (map (λ x. means x a) labels) s false; }
+listed-labels count means labels = record { count = count; words = λ s a. getD (map (λ x. means x a) labels) s false }
 
 -- a model by tables: a label for each state, one offset more, and the targets of all rows
 abbrev pub listed : {L : Type 0} → ℕ → (L → Words) → List L → List ℕ → List ℕ → Kripke
 listed count means labels offsets targets =
-    record { frame = listed-frame labels offsets targets; labels = listed-labels count means labels; }
+    record { frame = listed-frame labels offsets targets; labels = listed-labels count means labels }
 
 -- a move of the second model, whose states begin at n
 abbrev pub shifted : ℕ → ℕ → ℕ
@@ -60,7 +60,7 @@ beside-labels n l r = record {
 
 -- two models as one: the second's states follow the first's, and its moves shift with them
 abbrev pub beside : Kripke → Kripke → Kripke
-beside l r = record { frame = beside-frame (l .frame) (r .frame); labels = beside-labels (l .frame .size) (l .labels) (r .labels); }
+beside l r = record { frame = beside-frame (l .frame) (r .frame); labels = beside-labels (l .frame .size) (l .labels) (r .labels) }
 
 -- s is a state with an empty row
 abbrev pub rests : Frame → ℕ → Bool
@@ -74,4 +74,4 @@ rested-frame F = record {
 }
 
 abbrev pub rested : Kripke → Kripke
-rested M = record { frame = rested-frame (M .frame); labels = M .labels; }
+rested M = record { frame = rested-frame (M .frame); labels = M .labels }

@@ -4,6 +4,7 @@ ghost use Prim.Native.Nat.{_≤_};
 ghost use Rattle.kripke.specs.Kinds.{beside, beside-size, shifted};
 ghost use Rattle.kripke.proofs.Sides.{beside-formed};
 use crate::Model;
+use crate::facts::Facts;
 use kripke::LIMIT;
 use kripke::NOWHERE;
 
@@ -62,6 +63,18 @@ pub impl<A: Model, B: Model> Model for SideBySide<A, B> as SideBySideModel {
         match self.second.target(s - n, k) {
             Some(t) => Some(shift(n, t)),
             None => None,
+        }
+    }
+
+    fn facts(&self, s: u16) -> Facts {
+        if s >= self.size() {
+            return Facts::NONE;
+        }
+        let n = self.first.size();
+        if s < n {
+            self.first.facts(s)
+        } else {
+            self.second.facts(s - n)
         }
     }
 }

@@ -23,7 +23,9 @@ impl Facts {
         if a >= 64 {
             return self;
         }
-        Facts { bits: self.bits | (1 << a) }
+        Facts {
+            bits: self.bits | (1 << a),
+        }
     }
 }
 

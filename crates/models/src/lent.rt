@@ -1,6 +1,7 @@
 //! A model that is lent, so that a layer can hold the one below by value or by reference.
 ghost use denote.Ref.{now};
 use crate::Model;
+use crate::facts::Facts;
 
 pub impl<M: Model> Model for &M as LentModel {
     ghost means = { λ m. M·Model .means (now m) };
@@ -29,5 +30,9 @@ pub impl<M: Model> Model for &M as LentModel {
 
     fn alike(&self, s: u16, t: u16) -> bool {
         (*self).alike(s, t)
+    }
+
+    fn facts(&self, s: u16) -> Facts {
+        (*self).facts(s)
     }
 }

@@ -3,8 +3,9 @@ ghost use denote.Ref.{now};
 ghost use mathlib.Core.Path.{_≡_};
 ghost use Rattle.kripke.specs.Kinds.{listed, listed-size, table-row, told};
 ghost use Rattle.kripke.proofs.Tables.{listed-formed};
-use crate::Model;
 use crate::Label;
+use crate::Model;
+use crate::facts::Facts;
 use kripke::LIMIT;
 use kripke::NOWHERE;
 
@@ -77,6 +78,14 @@ pub impl<L: Label> Model for Listed<'_, L> as ListedModel {
     fn alike(&self, s: u16, t: u16) -> bool {
         let n = self.state_count();
         s < n && t < n && self.labels[s as usize].same(&self.labels[t as usize])
+    }
+
+    fn facts(&self, s: u16) -> Facts {
+        if s < self.state_count() {
+            self.labels[s as usize].facts()
+        } else {
+            Facts::NONE
+        }
     }
 }
 

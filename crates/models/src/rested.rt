@@ -3,6 +3,7 @@ ghost use mathlib.Core.Path.{_≡_};
 ghost use Rattle.kripke.specs.Kinds.{rested, rests};
 ghost use Rattle.kripke.proofs.Rests.{rested-formed};
 use crate::Model;
+use crate::facts::Facts;
 
 // The model below, where a state with an empty row gets one move, to itself.
 #[derive(Drop)]
@@ -43,6 +44,14 @@ pub impl<M: Model> Model for Rested<M> as RestedModel {
         } else {
             None
         }
+    }
+
+    fn alike(&self, s: u16, t: u16) -> bool {
+        self.below.alike(s, t)
+    }
+
+    fn facts(&self, s: u16) -> Facts {
+        self.below.facts(s)
     }
 }
 

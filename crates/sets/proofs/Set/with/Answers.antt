@@ -18,8 +18,8 @@ pub returns : need.returns
 returns c j =
     let low : c .args .k < 128 = search needs in
     subst (λ (y : ℕ). On (bitOr (c .args .self .bits) y) j ↔ (On (c .args .self .bits) j ⊎ ((j ≡ c .args .k) × (c .args .k < 128))))
-      (sym (one-shl (c .args .k) 128 low))
-      (joined (c .args .self .bits) (c .args .k) j low)
+    (sym (one-shl (c .args .k) 128 low))
+    (joined (c .args .self .bits) (c .args .k) j low)
 
 pub returns-then-k-ge128 : need.returns-then-k-ge128
 returns-then-k-ge128 c j =
