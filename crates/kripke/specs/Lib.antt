@@ -1,6 +1,7 @@
 pub mod Words
 pub mod Models
 pub mod Kinds
+pub mod Equivalence
 pub mod Paths
 pub mod Formulas
 pub mod Relation

@@ -1,0 +1,135 @@
+-- The components of a frame are the classes of states that reach one another inside their class of related states.
+use Prim.Native.Nat.{ℕ, zero, suc, _<_}
+use mathlib.Core.Path.{_≡_, refl, sym, _∙_, subst}
+use mathlib.Core.Bool.{Bool, true, false, _&&_}
+use mathlib.Core.Logic.{_↔_, Dec·and}
+use lib.Dec.{ltb, eqb}
+use native.Mathlib.Omega.{arith}
+use Rattle.std.proofs.shelf.Tests.{false≢true, ltb-true, lt-ltb, eqb-true, eq-eqb, and-parts, and-from}
+use Rattle.kripke.specs.Models.{Frame}
+use Rattle.kripke.specs.Equivalence.{Equivalence}
+use Rattle.kripke.specs.Paths.{Move, Trail}
+use Rattle.kripke.specs.Relation.{ST}
+use Rattle.kripke.specs.Numbering.{Ranked, Numbering}
+use Rattle.kripke.specs.Components.{States, Joined, Component, numbered, Components, Cyclic}
+use Rattle.kripke.proofs.Paths.{trail-map, trail-first}
+use Rattle.kripke.proofs.Deciding.{dec-ST}
+use Rattle.kripke.proofs.Rounds.{st-own, st-related, st-more, st-join}
+
+-- s and t reach one another among the states that L relates to them
+abbrev pub Mutual : Frame → (ℕ → ℕ → Type 0) → ℕ → ℕ → Type 0
+Mutual F L s t = ST F L s t × ST F L t s
+
+-- the test that a decision gives
+test : {A : Type 0} → Dec A → Bool
+test (yes a) = true
+test (no o) = false
+
+test-true : {A : Type 0} (d : Dec A) → test d ≡ true → A
+unfolding test
+test-true (yes a) e = a
+test-true (no o) e = absurd (false≢true e)
+
+true-test : {A : Type 0} (d : Dec A) → A → test d ≡ true
+unfolding test
+true-test (yes a) b = refl
+true-test (no o) b = absurd (o b)
+
+pub numbered-part : (F : Frame) (part : ℕ → ℕ) (i s : ℕ) → numbered F part i s ≡ true → (s < F .size) × (part s ≡ i)
+numbered-part F part i s e =
+    let p = and-parts (ltb s (F .size)) (eqb (part s) i) e in
+    (ltb-true s (F .size) (p .0), eqb-true (part s) i (p .1))
+
+pub part-numbered : (F : Frame) (part : ℕ → ℕ) (i s : ℕ) → s < F .size → part s ≡ i → numbered F part i s ≡ true
+part-numbered F part i s h e = and-from (ltb s (F .size)) (eqb (part s) i) (lt-ltb s (F .size) h) (eq-eqb (part s) i e)
+
+module _ (F : Frame) (L : ℕ → ℕ → Type 0) (E : Equivalence (F .size) L) where
+  pub mutual-equivalence : Equivalence (F .size) (Mutual F L)
+  mutual-equivalence = record {
+    members = λ s t p. E .members s t (st-related F L E s t (p .0));
+    own = λ s h. (st-own F L E s h, st-own F L E s h);
+    turn = λ s t p. (p .1, p .0);
+    join = λ s t u p q. (st-join F L E s t u (p .0) (q .0), st-join F L E u t s (q .1) (p .1));
+  }
+
+  -- on a path of related states from s, by u, to t, from which s is reached again, each state and s reach one another
+  round-trip : (s t n u : ℕ) → ST F L s u → Trail (Move F) (L s) n u t → ST F L t s → Trail (Move F) (Mutual F L s) n u t
+  round-trip s t zero u p q back = (q .0, (p, subst (λ w. ST F L w s) (sym (q .0)) back))
+  round-trip s t (suc n) u p q back =
+      let near = st-related F L E s u p in
+      let w : ℕ = q .0 in
+      let on : ST F L u t = (suc n, trail-map F (L s) (L u) (λ v _ f. E .join u s v (E .turn s u near) f) (suc n) u t (E .members s u near .1) q) in
+      let next = st-more F L E s u w p (q .2) (trail-first F (L s) n w t (q .3)) in
+      (w, (p, st-join F L E u t s on back), q .2, round-trip s t n w next (q .3) back)
+
+  -- all states that s reaches and that reach it: a joined set
+  mutual-joined : (S : States) (s : ℕ) → ((u : ℕ) → S u ≡ true → Mutual F L s u) → ((u : ℕ) → Mutual F L s u → S u ≡ true) → Joined F L S
+  mutual-joined S s to from = record {
+    related = λ u v a b. E .join u s v (E .turn s u (st-related F L E s u (to u a .0))) (st-related F L E s v (to v b .0));
+    reach = λ u v a b.
+        let Q = mutual-equivalence in
+        let near = to u a in
+        let p = Q .join u s v (Q .turn s u near) (to v b) in
+        let h = E .members s u (st-related F L E s u (near .0)) .1 in
+        let way = round-trip u v (p .0 .0) u (st-own F L E u h) (p .0 .1) (p .1) in
+        (p .0 .0, trail-map F (Mutual F L u) (λ w. S w ≡ true) (λ w _ q. from w (Q .join s u w near q)) (p .0 .0) u v h way);
+  }
+
+  pub joined-mutual : (S : States) → Joined F L S → (s t : ℕ) → S s ≡ true → S t ≡ true → Mutual F L s t
+  joined-mutual S J s t a b = (one s t a b, one t s b a)
+    where
+      one : (s t : ℕ) → S s ≡ true → S t ≡ true → ST F L s t
+      one s t a b =
+          let p = J .reach s t a b in
+          (p .0, trail-map F (λ w. S w ≡ true) (L s) (λ w _ q. J .related s w a q) (p .0) s t (E .members s s (J .related s s a a) .0) (p .1))
+
+  module _ (part : ℕ → ℕ) (count : ℕ) where
+    -- a search that numbers by mutual reach has found the components
+    pub mutual-components : Numbering (Mutual F L) (F .size) part count → Components F L part count
+    mutual-components N = record {
+      ranked = N .ranked;
+      each = λ i h.
+          let s = N .ranked .member i h in
+          let S = numbered F part i in
+          let to : (u : ℕ) → S u ≡ true → Mutual F L (s .0) u = λ u a.
+              let p = numbered-part F part i u a in
+              N .same (s .0) u (s .1) (p .0) .0 (s .2 ∙ sym (p .1)) in
+          let from : (u : ℕ) → Mutual F L (s .0) u → S u ≡ true = λ u p.
+              let l = mutual-equivalence .members (s .0) u p .1 in
+              part-numbered F part i u l (sym (N .same (s .0) u (s .1) l .1 p) ∙ s .2) in
+          let here = part-numbered F part i (s .0) (s .1) (s .2) in
+          record {
+            some = (s .0, here);
+            joined = mutual-joined S (s .0) to from;
+            largest = λ T J inside u a. from u (joined-mutual T J (s .0) u (inside (s .0) here) a);
+          };
+    }
+
+    -- and the components are so numbered
+    pub components-mutual : ((s t : ℕ) → Dec (L s t)) → Components F L part count → Numbering (Mutual F L) (F .size) part count
+    components-mutual d K = record {
+      ranked = K .ranked;
+      same = λ s t h l.
+          let i : ℕ = part s in
+          let S = numbered F part i in
+          let C = K .each i (K .ranked .below s h) in
+          let here = part-numbered F part i s h refl in
+          let T : States = λ u. test (Dec·and (dec-ST F L d s u) (dec-ST F L d u s)) in
+          let to : (u : ℕ) → T u ≡ true → Mutual F L s u = λ u a. test-true (Dec·and (dec-ST F L d s u) (dec-ST F L d u s)) a in
+          let from : (u : ℕ) → Mutual F L s u → T u ≡ true = λ u p. true-test (Dec·and (dec-ST F L d s u) (dec-ST F L d u s)) p in (
+            (λ e. joined-mutual S (C .joined) s t here (part-numbered F part i t l (sym e))),
+            (λ p.
+                let inside : (u : ℕ) → S u ≡ true → T u ≡ true = λ u a. from u (joined-mutual S (C .joined) s u here a) in
+                let a = C .largest T (mutual-joined T s to from) inside t (from t p) in
+                sym (numbered-part F part i t a .1)),
+          );
+    }
+
+-- a component holds a cycle exactly where one of its states moves to one of its states
+pub cyclic-move : (F : Frame) (L : ℕ → ℕ → Type 0) (S : States) → Joined F L S → Cyclic F S ↔ ((s t : ℕ) × Move F s t × (S s ≡ true) × (S t ≡ true))
+cyclic-move F L S J = (
+  (λ c. let p = c .2 in (c .0, p .0, p .2, p .1, trail-first F (λ w. S w ≡ true) (c .1) (p .0) (c .0) (p .3))),
+  (λ p.
+      let back = J .reach (p .1) (p .0) (p .4) (p .3) in
+      (p .0, back .0, (p .1, p .3, p .2, back .1))),
+)
