@@ -1,3 +1,7 @@
 //! The components of a model, found by one walk in lent memory.
 
+mod marks;
+mod moves;
+mod search;
 pub mod stack;
+mod walking;
