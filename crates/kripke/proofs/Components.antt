@@ -6,15 +6,15 @@ use mathlib.Core.Logic.{_↔_, Dec·and}
 use lib.Dec.{ltb, eqb}
 use native.Mathlib.Omega.{arith}
 use Rattle.std.proofs.shelf.Tests.{false≢true, ltb-true, lt-ltb, eqb-true, eq-eqb, and-parts, and-from}
-use Rattle.kripke.specs.Models.{Frame}
+use Rattle.kripke.specs.Models.{Frame, Kripke, Alike}
 use Rattle.kripke.specs.Equivalence.{Equivalence}
 use Rattle.kripke.specs.Paths.{Move, Trail}
-use Rattle.kripke.specs.Relation.{ST}
+use Rattle.kripke.specs.Relation.{ST, Refined, Related}
 use Rattle.kripke.specs.Numbering.{Ranked, Numbering}
 use Rattle.kripke.specs.Components.{States, Joined, Component, numbered, Components, Cyclic}
 use Rattle.kripke.proofs.Paths.{trail-map, trail-first}
 use Rattle.kripke.proofs.Deciding.{dec-ST}
-use Rattle.kripke.proofs.Rounds.{st-own, st-related, st-more, st-join}
+use Rattle.kripke.proofs.Rounds.{st-own, st-related, st-more, st-join, between, st-next, refined-equivalence, related-equivalence}
 
 -- s and t reach one another among the states that L relates to them
 abbrev pub Mutual : Frame → (ℕ → ℕ → Type 0) → ℕ → ℕ → Type 0
@@ -133,3 +133,15 @@ cyclic-move F L S J = (
       let back = J .reach (p .1) (p .0) (p .4) (p .3) in
       (p .0, back .0, (p .1, p .3, p .2, back .1))),
 )
+
+-- no round parts states that reach one another
+pub mutual-refined : (F : Frame) (C : ℕ → ℕ → Type 0) → Equivalence (F .size) C → (s t : ℕ) → Mutual F C s t → Mutual F (Refined F C) s t
+mutual-refined F C E s t p =
+    let Q = refined-equivalence F C E in
+    let h = E .members s t (st-related F C E s t (p .0)) in
+    let near = between F C E s t s (p .0) (p .1) (Q .own s (h .0)) in
+    (st-next F C E s t .1 (p .0, near), st-next F C E t s .1 (p .1, Q .turn s t near))
+
+pub mutual-kept : (M : Kripke) (r s t : ℕ) → Mutual (M .frame) (Alike M) s t → Mutual (M .frame) (Related M r) s t
+mutual-kept M zero s t p = p
+mutual-kept M (suc r) s t p = mutual-refined (M .frame) (Related M r) (related-equivalence M r) s t (mutual-kept M r s t p)

@@ -1,7 +1,7 @@
 -- What can be decided of the numbers below n, and the least number with a property.
 use Prim.Native.Nat.{ℕ, zero, suc, _<_, _≤_}
 use mathlib.Core.Path.{_≡_, sym, subst}
-use mathlib.Core.Logic.{_↔_, Dec·and}
+use mathlib.Core.Logic.{_↔_, _⊎_, inl, inr, Dec·and}
 use native.Mathlib.Omega.{arith}
 use native.Mathlib.Decide.{ℕ-discrete}
 
@@ -37,6 +37,11 @@ all-below (suc n) P d =
         ])
       ]
     ]
+
+pub dec-or : {A B : Type 0} → Dec A → Dec B → Dec (A ⊎ B)
+dec-or (yes a) b = yes (inl a)
+dec-or (no o) (yes b) = yes (inr b)
+dec-or (no o) (no l) = no (λ p. elim p [ inl a ↦ o a | inr b ↦ l b ])
 
 pub dec-iff : {A B : Type 0} → Dec A → Dec B → Dec (A ↔ B)
 dec-iff a b = Dec·and (dec-imp a b) (dec-imp b a)

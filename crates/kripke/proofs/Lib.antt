@@ -17,3 +17,6 @@ pub mod Numbering
 pub mod Settling
 pub mod Quotient
 pub mod Components
+pub mod Truth
+pub mod Claims
+pub mod Sampling

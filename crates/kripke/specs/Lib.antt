@@ -8,3 +8,4 @@ pub mod Relation
 pub mod Components
 pub mod Numbering
 pub mod Reduced
+pub mod Claims

@@ -6,3 +6,5 @@ pub const NOWHERE: u16 = 4096;
 
 /// The most states of a model, and the most moves of a row.
 pub const LIMIT: u16 = 4096;
+
+pub mod theorems;
