@@ -2,6 +2,7 @@
 
 mod marks;
 mod moves;
+mod numbering;
 mod search;
 pub mod stack;
 mod walking;
