@@ -75,6 +75,7 @@ none G place u nums ws en ew = rw en (rw ew (record {
 -- at the end
 pub all-done : (G : Frame) (place : List Place) (c : ℕ) (nums : List ℕ) (ws : List Walk) → Going G place c nums ws → ws ≡ [] → ((s : ℕ) → s < G .size → spot place s ≡ Unseen → ⊥) → Searched G place c
 all-done G place c nums ws on e met = record {
+    few = omega (arith, on .fits .numbers);
     each = λ s l. look s l (spot place s) refl;
     used = λ d l. let v : (s : ℕ) × (spot place s ≡ Done d) = on .keeps .used d l in
         (v .0, ⊎-elim (λ lt. lt) (λ ge. absurd (unseen-done (on .fits .outside (v .0) ge) (v .1))) (cases-lt (v .0) (G .size)), v .1);

@@ -6,7 +6,9 @@ use Prim.Native.Nat.{ℕ, _<_, _≤_}
 use lib.ListN.{getD}
 use Rattle.sets.specs.declared.Set.{Set}
 use Rattle.sets.specs.Sets.{In}
+use Rattle.kripke.specs.Models.{Frame}
 use Rattle.kripke.specs.Numbering.{Numbering}
+use Rattle.kripke.specs.Paths.{Move}
 use Rattle.components.specs.Walks.{spot}
 use Rattle.components.specs.declared.marks.Place.{Place}
 
@@ -27,3 +29,7 @@ pub record Numbered (place : List Place) (n : ℕ) (part part′ : List ℕ) (co
   pub numbering : Numbering (Together place) n (number part′) count
   pub rest : (s : ℕ) → n ≤ s → number part′ s ≡ number part s
   pub twice : (i : ℕ) → In many i ↔ Twice n part′ i
+
+-- one of the first n states has the number i and a move to itself
+abbrev pub Turns : Frame → ℕ → List ℕ → ℕ → Type 0
+Turns F n part i = (s : ℕ) × (s < n) × (number part s ≡ i) × Move F s s

@@ -159,6 +159,7 @@ pub record Next (G : Frame) (place : List Place) (ws : List Walk) (place′ : Li
 -- the search is over: each state has one of c numbers, each number is some state's, and two states have the same
 -- exactly where moves lead both ways
 pub record Searched (G : Frame) (place : List Place) (c : ℕ) : Type 0 where
+  pub few : c ≤ G .size
   pub each : (s : ℕ) → s < G .size → (d : ℕ) × (spot place s ≡ Done d) × (d < c)
   pub used : (d : ℕ) → d < c → (s : ℕ) × (s < G .size) × (spot place s ≡ Done d)
   pub same : (s t d : ℕ) → spot place s ≡ Done d → spot place t ≡ Done d → Leads (G .row) s t × Leads (G .row) t s
