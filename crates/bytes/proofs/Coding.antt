@@ -6,11 +6,11 @@ use mathlib.Core.Path.{_≡_, refl, sym, ap, _∙_}
 use Prim.Native.Nat.{ℕ, zero, suc, _+_, _-_, _*_, _/_, _%_, _<_, _≤_}
 use native.Mathlib.Omega.{arith}
 use lib.Dec.{ltb}
-use lib.ListN.{length, take, drop, getD}
+use lib.ListN.{length}
 use borrow.Author.Tests.{lt-ltb, le-ltb}
-use Rattle.std.proofs.shelf.Lists.{append-assoc, length-append, take-append-drop, take-more, take-all, joined-more}
+use Rattle.std.proofs.shelf.Lists.{length-append}
 use Rattle.std.proofs.shelf.Tests.{cases-lt, cond-true, cond-false}
-use Rattle.bytes.specs.Numbers.{codeBy, code, codes, counted, Coded, meant, Shortest, Each-code-is-shortest}
+use Rattle.bytes.specs.Numbers.{codeBy, code, codes, Coded, meant, Shortest, Each-code-is-shortest}
 
 enough : (j k n : ℕ) → n ≤ j → n ≤ k → codeBy j n ≡ codeBy k n
 enough zero zero n _ _ = refl
@@ -90,25 +90,6 @@ each-code-is-shortest =
       means = let m = ih .means in rw (code-more n a) (omega arith);
       fewest = fewer n a (ih .fewest);
     })
-
-pub codes-append : (ms ns : List ℕ) → codes (ms ++ ns) ≡ codes ms ++ codes ns
-codes-append [] ns = refl
-codes-append (m ∷ ms) ns = ap (λ bs. code m ++ bs) (codes-append ms ns) ∙ sym (append-assoc (code m) (codes ms) (codes ns))
-
-pub codes-more : (ns : List ℕ) (i : ℕ) → i < length ns → codes (take (i + 1) ns) ≡ codes (take i ns) ++ code (getD ns i 0)
-codes-more ns i h = ap codes (take-more ns i 0 h) ∙ sym (joined-more code [] (take i ns) (getD ns i 0))
-
-pub codes-all : (ns : List ℕ) (i : ℕ) → length ns ≤ i → codes (take i ns) ≡ codes ns
-codes-all ns i h = ap codes (take-all i ns h)
-
-codes-front : (ns : List ℕ) (i : ℕ) → length (codes (take i ns)) ≤ length (codes ns)
-codes-front ns i =
-    let split = ap codes (sym (take-append-drop i ns)) ∙ codes-append (take i ns) (drop i ns) in
-    omega (arith, simp length-append at (ap length split))
-
--- what the numbers take up to one of them, and with it, is no more than all take
-pub codes-within : (ns : List ℕ) (i : ℕ) → i < length ns → length (codes (take i ns)) + length (code (getD ns i 0)) ≤ length (codes ns)
-codes-within ns i h = omega (arith, codes-front ns (i + 1), simp length-append at (ap length (codes-more ns i h)))
 
 -- each number takes a byte at least
 pub length-codes : (ns : List ℕ) → length ns ≤ length (codes ns)

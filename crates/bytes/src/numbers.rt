@@ -8,6 +8,7 @@ ghost use Rattle.std.specs.Results.{Cases};
 ghost use Rattle.bytes.specs.Numbers.{code, codes, counted, Each-code-is-shortest};
 ghost use Rattle.bytes.specs.Pieces.{placed, Writes};
 ghost use Rattle.bytes.specs.Reading.{Begins, Endless, Refused, RefusedBelow, Reads, Stands, located, One-reading, Written-reads-back, Read-rewrites};
+use crate::fits;
 
 /// What is wrong with a number of a file, and where.
 #[derive(Clone, Copy, Debug, PartialEq, Eq)]
@@ -123,30 +124,75 @@ pub fn width(number: u64) -> usize
     }
 }
 
-// Writes the number from `at` on.
-fn put(number: u64, buffer: &mut [u8], at: usize)
+// Writes the number from `at` on, and answers where it ends.
+fn put(number: u64, buffer: &mut [u8], at: usize) -> usize
     requires { ⌜ at + length (code number) ≤ length (now buffer) ⌝ }
-    ensures { λ _. ⌜ now (buffer .exit) ≡ placed (now (buffer .entry)) at (code number) ⌝ }
+    ensures end { λ r. ⌜ r ≡ at + length (code number) ⌝ }
+    ensures after { λ _. ⌜ now (buffer .exit) ≡ placed (now (buffer .entry)) at (code number) ⌝ }
 {
     if number < 128 {
         buffer[at] = number as u8;
+        at + 1
     } else {
         buffer[at] = (number % 128) as u8 + MORE;
-        put(number / 128, buffer, at + 1);
+        put(number / 128, buffer, at + 1)
     }
 }
 
 /// Writes the number from `at` on, and answers where it ends; writes nothing where it has no room.
+/// A reader then finds it there.
 pub fn write_number(number: u64, buffer: &mut [u8], at: usize) -> Option<usize>
     ensures writes { λ r. ⌜ Writes (code number) (now (buffer .entry)) at (now (buffer .exit)) r ⌝ }
     ensures stands { λ r. ⌜ BySome r (Unit {0}) (λ end. Stands (now (buffer .exit)) at number end) ⌝ }
 {
-    let wide = width(number);
-    if at > buffer.len() || wide > buffer.len() - at {
+    if !fits(buffer.len(), at, width(number)) {
         return None;
     }
-    put(number, buffer, at);
-    Some(at + wide)
+    Some(put(number, buffer, at))
+}
+
+// How many bytes the numbers take, where that is at most `most`.
+fn codes_width(numbers: &[u16], most: usize) -> Option<usize>
+    ensures { λ r. ⌜ BySome r (most < length (codes (now (numbers .entry)))) (λ wide. (wide ≡ length (codes (now (numbers .entry)))) × (wide ≤ most)) ⌝ }
+{
+    let mut wide = 0;
+    for number in numbers {
+        let next = width(*number as u64);
+        if next > most - wide {
+            return None;
+        }
+        wide += next;
+    }
+    Some(wide)
+}
+
+// Writes the numbers from `from` on, and answers where the last ends.
+fn put_codes(numbers: &[u16], buffer: &mut [u8], from: usize) -> usize
+    requires { ⌜ from + length (codes (now numbers)) ≤ length (now buffer) ⌝ }
+    ensures end { λ r. ⌜ r ≡ from + length (codes (now (numbers .entry))) ⌝ }
+    ensures after { λ _. ⌜ now (buffer .exit) ≡ placed (now (buffer .entry)) from (codes (now (numbers .entry))) ⌝ }
+{
+    let mut at = from;
+    for number in numbers {
+        at = put(*number as u64, buffer, at);
+    }
+    at
+}
+
+/// Writes how many numbers there are and then each of them, from `at` on, and answers where the last ends;
+/// writes nothing where they have no room.
+pub fn write_counted(numbers: &[u16], buffer: &mut [u8], at: usize) -> Option<usize>
+    ensures { λ r. ⌜ Writes (codes (counted (now (numbers .entry)))) (now (buffer .entry)) at (now (buffer .exit)) r ⌝ }
+{
+    let count = numbers.len() as u64;
+    if !fits(buffer.len(), at, width(count)) {
+        return None;
+    }
+    let first = at + width(count);
+    let room = buffer.len() - first;
+    let _wide = codes_width(numbers, room)?;
+    let from = put(count, buffer, at);
+    Some(put_codes(numbers, buffer, from))
 }
 
 /// The laws of numbers: each is written in its fewest bytes, a reader has one answer, what is written

@@ -14,7 +14,13 @@ pub put-requires : need.put-requires
 put-requires t c κs = (omega arith, simp length-set (omega (arith, width-more (c .args .number) (c .if-number-lt128 .left))))
 
 pub returns-then-number-lt128 : need.returns-then-number-lt128
-returns-then-number-lt128 t c = put-last _ _ _ (c .if-number-lt128 .taken) (c .pre)
+returns-then-number-lt128 t c = record {
+  end = omega (arith, width-last (c .args .number) (c .if-number-lt128 .taken));
+  after = put-last _ _ _ (c .if-number-lt128 .taken) (c .pre);
+}
 
 pub returns-else-number-lt128 : need.returns-else-number-lt128
-returns-else-number-lt128 t c = put-more _ _ _ _ (c .if-number-lt128 .left) (c .pre) (c .put .ensures)
+returns-else-number-lt128 t c = record {
+  end = omega (arith, width-more (c .args .number) (c .if-number-lt128 .left));
+  after = put-more _ _ _ _ (c .if-number-lt128 .left) (c .pre) (c .put .ensures .after);
+}
