@@ -1,0 +1,2 @@
+//! The model file: what its bytes denote, what is wrong first with one that is not right, and the faults in layers.
+pub mod faults;
