@@ -1,1 +1,4 @@
 pub mod Faults
+pub mod Files
+pub mod FirstFault
+pub mod Walks

@@ -1,2 +1,3 @@
 //! The model file: what its bytes denote, what is wrong first with one that is not right, and the faults in layers.
 pub mod faults;
+mod scan;
