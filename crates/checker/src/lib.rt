@@ -17,10 +17,10 @@ use sets::Set;
 use survey::gaps::Gap;
 use survey::rows_of;
 
-pub mod reading;
-pub mod spread;
+mod reading;
+mod spread;
 pub mod steps;
-pub mod truth;
+mod truth;
 
 pub impl From<Gap> for Refused as RefusedFromGap {
     ghost converts = { λ gap r. r ≡ of-model gap };
