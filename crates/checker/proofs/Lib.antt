@@ -1,4 +1,5 @@
 pub mod Counts
+pub mod Spelling
 pub mod Operators
 pub mod Spreads
 pub mod Stacks

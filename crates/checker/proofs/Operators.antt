@@ -5,11 +5,12 @@ use native.Mathlib.Omega.{arith}
 use Rattle.kripke.specs.Words.{Words}
 use Rattle.kripke.specs.Models.{Kripke}
 use Rattle.kripke.specs.Paths.{Until as Ends, Stays, Move}
-use Rattle.kripke.specs.Formulas.{Formula, top, word, neg, or, until, globally, Holds}
+use Rattle.kripke.specs.Formulas.{Formula, Holds}
 use Rattle.checker.specs.declared.steps.Step.{Step}
 use Rattle.checker.specs.declared.steps.Step.the-variants.{True, Word, Not, Or, Until, Globally}
 use Rattle.checker.specs.Reading.{takes}
 use Rattle.checker.specs.Marks.{TrueAt}
+use Rattle.checker.proofs.Spelling.{made}
 
 -- from a state below n, a move by R is one by R′, and goes to a state below n
 abbrev pub Carries : ℕ → (ℕ → ℕ → Type 0) → (ℕ → ℕ → Type 0) → Type 0
@@ -55,15 +56,6 @@ step-over n R R′ to from words P P′ Q Q′ Globally p q s h =
       stays-over n R R′ to P P′ (λ t l. e t l .0) n s h,
       stays-over n R′ R from P′ P (λ t l. e t l .1) n s h,
     )
-
--- the formula that a step makes of its operands, of which it leaves out those that it does not take
-abbrev pub made : Step → Formula → Formula → Formula
-made True f g = top
-made (Word a) f g = word a
-made Not f g = neg f
-made Or f g = or f g
-made Until f g = until f g
-made Globally f g = globally f
 
 pub made-holds : (M : Kripke) (x : Step) (f g : Formula) (s : ℕ) →
     TrueAt (Move (M .frame)) (M .frame .size) (M .labels .words) x (Holds M f) (Holds M g) s ↔ Holds M (made x f g) s
