@@ -17,10 +17,12 @@ use sets::Set;
 use survey::gaps::Gap;
 use survey::rows_of;
 
-pub mod reading;
-pub mod spread;
+mod reading;
+mod spread;
 pub mod steps;
-pub mod truth;
+#[cfg(test)]
+mod tests;
+mod truth;
 
 pub impl From<Gap> for Refused as RefusedFromGap {
     ghost converts = { λ gap r. r ≡ of-model gap };
