@@ -9,7 +9,7 @@ use Rattle.kripke.specs.Relation.{Related}
 use Rattle.kripke.specs.Numbering.{Numbering}
 use Rattle.kripke.specs.Claims.{Rounds-equivalent, Rounds-refine, Rounds-decided, Components-kept, ST-narrows}
 use Rattle.kripke.specs.Claims.{Stable-stays, Rounds-settle, Settled-once, Rounds-counted, Class-formula, Parted-by-formula, Stable-exact}
-use Rattle.kripke.specs.Claims.{Reduced-agrees, Reduced-smallest, Globally-goes-on, Truth-decided}
+use Rattle.kripke.specs.Claims.{Reduced-agrees, Reduced-smallest, Reduced-there, Reduced-once, Globally-goes-on, Truth-decided}
 use Rattle.kripke.specs.Claims.{Numbers-once, Classes-once, Components-once, Classes-there, Components-there}
 use Rattle.kripke.proofs.Paths.{stays-behind, stays-round}
 use Rattle.kripke.proofs.Cycle.{lasso, pump}
@@ -23,6 +23,7 @@ use Rattle.kripke.proofs.Components.{Mutual, mutual-equivalence, mutual-compon
 use Rattle.kripke.proofs.Stability.{stable-agrees}
 use Rattle.kripke.proofs.Telling.{characteristic, characteristic-depth, characteristic-tells, parted}
 use Rattle.kripke.proofs.Quotient.{reduced-agrees, reduced-smallest}
+use Rattle.kripke.proofs.Reducing.{reduced-there, reduced-once}
 use Rattle.kripke.proofs.Truth.{dec-holds}
 
 pub rounds-equivalent : Rounds-equivalent
@@ -89,6 +90,12 @@ agrees-reduced M r m c R stable N reduces s h = reduced-agrees M r m c R stable 
 
 pub smallest-reduced : Reduced-smallest
 smallest-reduced M formed total r m c R stable N reduces = reduced-smallest M r m c R stable N reduces formed total
+
+pub there-reduced : Reduced-there
+there-reduced M formed r m c stable N = reduced-there M formed r m c N stable
+
+pub once-reduced : Reduced-once
+once-reduced M r m c R X N = reduced-once M (Related M r) m c R X (N .ranked)
 
 pub globally-goes-on : Globally-goes-on
 globally-goes-on M f s h = (

@@ -19,5 +19,7 @@ pub mod Deciding
 pub mod Settling
 pub mod Quotient
 pub mod Sampling
+pub mod Picking
+pub mod Reducing
 pub mod Components
 pub mod Claims

@@ -131,6 +131,22 @@ module _ (n : ℕ) (C : ℕ → ℕ → Type 0) (E : Equivalence n C) (d : (s t 
   pub numbered : Numbered n
   numbered = numbered-below n (omega arith)
 
+-- the same numbers, given by another function
+pub renumbered : (C : ℕ → ℕ → Type 0) (n k m : ℕ) (f g : ℕ → ℕ) → Numbering C n f k → k ≡ m → ((s : ℕ) → s < n → f s ≡ g s) → Numbering C n g m
+renumbered C n k m f g N e same = record {
+  ranked = record {
+    below = λ s h. subst (λ x. x < m) (same s h) (subst (λ x. f s < x) e (N .ranked .below s h));
+    member = λ i h. let s = N .ranked .member i (subst (λ x. i < x) (sym e) h) in (s .0, s .1, sym (same (s .0) (s .1)) ∙ s .2);
+    order = λ s i h l.
+        let t = N .ranked .order s i h (subst (λ x. i < x) (sym (same s h)) l) in
+        (t .0, t .1, sym (same (t .0) (omega (arith, t .1))) ∙ t .2);
+  };
+  same = λ s t h l. (
+    (λ q. N .same s t h l .0 (same s h ∙ q ∙ sym (same t l))),
+    (λ q. sym (same s h) ∙ N .same s t h l .1 q ∙ same t l),
+  );
+}
+
 -- two numberings of one relation agree
 module _ (C : ℕ → ℕ → Type 0) (n m k : ℕ) (f g : ℕ → ℕ) (R : Numbering C n f m) (S : Numbering C n g k) where
   both-part : (s t : ℕ) → s < n → t < n → (f s ≡ f t) ↔ (g s ≡ g t)

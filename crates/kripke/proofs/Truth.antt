@@ -27,7 +27,7 @@ module _ (F : Frame) (P Q : ℕ → Type 0) (p : (w : ℕ) → Dec (P w)) (q : (
       to (inl e) = (0, e)
       to (inr e) = until-behind F P Q (e .2) 0 s (e .0) (e .1) (e .3) (e .4) (e .5)
 
-dec-stays : (F : Frame) (P : ℕ → Type 0) → ((w : ℕ) → Dec (P w)) → (n s : ℕ) → Dec (Stays (Move F) P n s)
+pub dec-stays : (F : Frame) (P : ℕ → Type 0) → ((w : ℕ) → Dec (P w)) → (n s : ℕ) → Dec (Stays (Move F) P n s)
 dec-stays F P d zero s = d s
 dec-stays F P d (suc n) s =
     Dec·of-iff ((λ p. (p .1 .0, p .0, p .1 .2 .0, p .1 .2 .1)), (λ p. (p .1, (p .0, p .2 .2, (p .2, p .3)))))

@@ -18,7 +18,7 @@ use Rattle.kripke.proofs.Sides.{beside-formed}
 use Rattle.kripke.proofs.Rests.{rested-formed}
 use Rattle.worked.specs.Tables.{any, every, seek, row, lines}
 use Rattle.worked.specs.Decisions.{among, moves, widen, close, roads, reached, looped, nexts, near, matches, finer, round, spoken, alike, relation, inside, outside, loops, mutual?, ranks, steady, settling?, ways, ends, keeps, truth, below, total?, rising?, move?, reduces?, related?, holds?}
-use Rattle.worked.specs.Cases.{Worked, facts, Tables, model, polls-tables, polls, merged-tables, merged, chain-tables, chain, lone-tables, lone, bare-tables, bare, of, Found}
+use Rattle.worked.specs.Cases.{Worked, facts, Listed, model, polls-tables, polls, merged-tables, merged, chain-tables, chain, lone-tables, lone, bare-tables, bare, of, Found}
 use Rattle.worked.proofs.Tests.{Tells, holds, sure, never, true-tells, implies, equals, tells-eq, tells-every}
 use Rattle.worked.proofs.Relating.{draws-relation, lists-loops}
 use Rattle.worked.proofs.Truth.{lists-truth}
@@ -31,7 +31,7 @@ facts-lawful = record {
   within = λ n a past. ap (λ b. b && bit n a) (le-ltb a 64 past);
 }
 
-model-formed : (t : Tables) → WellFormed (model t)
+model-formed : (t : Listed) → WellFormed (model t)
 model-formed t = listed-formed 64 facts (t .labels) (t .offsets) (t .targets) facts-lawful
 
 -- all that the tests compute with, and the models

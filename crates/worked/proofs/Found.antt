@@ -1,15 +1,15 @@
 -- What is found in a model, by one test.
-use Prim.Native.Nat.{ℕ, _<_}
-use mathlib.Core.Path.{_≡_, sym, _∙_, subst}
+use Prim.Native.Nat.{ℕ}
+use mathlib.Core.Path.{_≡_, subst}
 use mathlib.Core.Bool.{Bool, true, _&&_}
 use mathlib.Core.List.{List}
-use native.Mathlib.Omega.{arith}
 use lib.ListN.{getD}
 use lib.Dec.{eqb, ltb}
 use Rattle.kripke.specs.Models.{Kripke, WellFormed}
 use Rattle.kripke.specs.Relation.{Related, Settles}
 use Rattle.kripke.specs.Numbering.{Numbering}
 use Rattle.kripke.specs.Components.{Components}
+use Rattle.kripke.proofs.Numbering.{renumbered}
 use Rattle.worked.specs.Tables.{every}
 use Rattle.worked.specs.Decisions.{classes?, components?, settling?, at, total?}
 use Rattle.worked.specs.Cases.{of, Found}
@@ -21,22 +21,6 @@ found? M k h r m l =
     let c = classes? M r in
     ltb 0 (M .frame .size) && (total? (M .frame) && (eqb (components? M .count) k && (eqb (classes? M 0 .count) h && (eqb (settling? M) r &&
     (eqb (c .count) m && every (M .frame .size) (λ s. eqb (at c s) (getD l s 0)))))))
-
--- a numbering, read from another list
-renumbered : (C : ℕ → ℕ → Type 0) (n k m : ℕ) (f g : ℕ → ℕ) → Numbering C n f k → k ≡ m → ((s : ℕ) → s < n → f s ≡ g s) → Numbering C n g m
-renumbered C n k m f g N e same = record {
-  ranked = record {
-    below = λ s h. subst (λ x. x < m) (same s h) (subst (λ x. f s < x) e (N .ranked .below s h));
-    member = λ i h. let s = N .ranked .member i (subst (λ x. i < x) (sym e) h) in (s .0, s .1, sym (same (s .0) (s .1)) ∙ s .2);
-    order = λ s i h l.
-        let t = N .ranked .order s i h (subst (λ x. i < x) (sym (same s h)) l) in
-        (t .0, t .1, sym (same (t .0) (omega (arith, t .1))) ∙ t .2);
-  };
-  same = λ s t h l. (
-    (λ q. N .same s t h l .0 (same s h ∙ q ∙ sym (same t l))),
-    (λ q. sym (same s h) ∙ N .same s t h l .1 q ∙ same t l),
-  );
-}
 
 pub found : (M : Kripke) → WellFormed M → (k h r m : ℕ) (l : List ℕ) → found? M k h r m l ≡ true → Found M k h r m l
 unfolding found? of

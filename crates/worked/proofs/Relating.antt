@@ -6,34 +6,32 @@ use mathlib.Core.Logic.{_⊎_, inl, inr}
 use mathlib.Core.List.{List, [], _∷_}
 use native.Mathlib.Omega.{arith}
 use native.Mathlib.Decide.{decLt}
-use lib.ListN.{length, getD}
+use lib.ListN.{getD}
 use lib.Dec.{eqb}
-use Rattle.kripke.specs.Models.{Frame, Kripke, WellFormed, Alike, nowhere}
+use Rattle.kripke.specs.Models.{Frame, Kripke, WellFormed, Alike}
 use Rattle.kripke.specs.Equivalence.{Equivalence}
 use Rattle.kripke.specs.Paths.{Move, Trail}
 use Rattle.kripke.specs.Relation.{ST, NEXT, LOOP, Matched, Refined, Related}
 use Rattle.kripke.proofs.Paths.{trail-map, trail-first}
 use Rattle.kripke.proofs.Rounds.{related-equivalence, st-related, st-more}
+use Rattle.kripke.proofs.Roads.{Steps, Road}
+use Rattle.kripke.proofs.Components.{Mutual}
+use Rattle.kripke.proofs.Picking.{In}
 use Rattle.worked.specs.Tables.{any, every, row, grid, look}
 use Rattle.worked.specs.Decisions.{Table, among, moves, roads, reached, looped, nexts, near, matches, finer, round, spoken, alike, relation, inside, outside, loops, mutual?}
 use Rattle.worked.proofs.Tests.{Tells, fails, turned, both, either, refuted, implies, equals, tells-bool, tells-eq, tells-any, tells-every, Lists, Draws, lists, draws, lines-look}
-use Rattle.kripke.proofs.Roads.{Steps, Road}
 use Rattle.worked.proofs.Closure.{draws-road}
-use Rattle.kripke.proofs.Components.{Mutual}
 
-abbrev pub Aims : List ℕ → ℕ → Type 0
-Aims l t = (k : ℕ) × (k < length l) × (getD l k nowhere ≡ t)
-
-pub tells-among : (l : List ℕ) (t : ℕ) → Tells (Aims l t) (among l t)
+pub tells-among : (l : List ℕ) (t : ℕ) → Tells (In l t) (among l t)
 unfolding among
 tells-among [] t = fails (λ p. omega (arith, p .1))
 tells-among (x ∷ xs) t = turned ahead back (either (tells-eq x t) (tells-among xs t))
   where
-    ahead : (x ≡ t) ⊎ Aims xs t → Aims (x ∷ xs) t
+    ahead : (x ≡ t) ⊎ In xs t → In (x ∷ xs) t
     ahead (inl e) = (0, omega arith, e)
     ahead (inr p) = (suc (p .0), omega (arith, p .1), p .2)
 
-    back : Aims (x ∷ xs) t → (x ≡ t) ⊎ Aims xs t
+    back : In (x ∷ xs) t → (x ≡ t) ⊎ In xs t
     back (zero, h, e) = inl e
     back (suc k, h, e) = inr (k, omega arith, e)
 

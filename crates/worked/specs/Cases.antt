@@ -20,16 +20,16 @@ abbrev pub facts : ℕ → Words
 facts n a = ltb a 64 && bit n a
 
 -- a listed model with such labels
-pub record Tables : Type 0 where
+pub record Listed : Type 0 where
   pub labels : List ℕ
   pub offsets : List ℕ
   pub targets : List ℕ
 
-abbrev pub model : Tables → Kripke
+abbrev pub model : Listed → Kripke
 model t = listed 64 facts (t .labels) (t .offsets) (t .targets)
 
 -- five states, word 0 at state 2; moves 0→1, 1→2, 2→2, 3→2, 4→2 and 4→4
-unfoldable pub polls-tables : Tables
+unfoldable pub polls-tables : Listed
 polls-tables = record {
   labels = 0 ∷ 0 ∷ 1 ∷ 0 ∷ 0 ∷ [];
   offsets = 0 ∷ 1 ∷ 2 ∷ 3 ∷ 4 ∷ 6 ∷ [];
@@ -40,7 +40,7 @@ abbrev pub polls : Kripke
 polls = model polls-tables
 
 -- three states, word 0 at state 1; moves 0→1, 1→1, 2→1 and 2→2
-unfoldable pub merged-tables : Tables
+unfoldable pub merged-tables : Listed
 merged-tables = record {
   labels = 0 ∷ 1 ∷ 0 ∷ [];
   offsets = 0 ∷ 1 ∷ 2 ∷ 4 ∷ [];
@@ -51,7 +51,7 @@ abbrev pub merged : Kripke
 merged = model merged-tables
 
 -- words 0, 1, 2, 0, 1 and none; moves 0→1→2→2 and 3→4→5→5
-unfoldable pub chain-tables : Tables
+unfoldable pub chain-tables : Listed
 chain-tables = record {
   labels = 1 ∷ 2 ∷ 4 ∷ 1 ∷ 2 ∷ 0 ∷ [];
   offsets = 0 ∷ 1 ∷ 2 ∷ 3 ∷ 4 ∷ 5 ∷ 6 ∷ [];
@@ -62,13 +62,13 @@ abbrev pub chain : Kripke
 chain = model chain-tables
 
 -- one state, with a move to itself and without
-unfoldable pub lone-tables : Tables
+unfoldable pub lone-tables : Listed
 lone-tables = record { labels = 0 ∷ []; offsets = 0 ∷ 1 ∷ []; targets = 0 ∷ [] }
 
 abbrev pub lone : Kripke
 lone = model lone-tables
 
-unfoldable pub bare-tables : Tables
+unfoldable pub bare-tables : Listed
 bare-tables = record { labels = 0 ∷ []; offsets = 0 ∷ 0 ∷ []; targets = [] }
 
 abbrev pub bare : Kripke
