@@ -2,4 +2,4 @@
 pub mod faults;
 mod fill;
 pub mod reading;
-mod scan;
+pub mod scan;
