@@ -1,0 +1,4 @@
+pub mod Rise
+pub mod Walking
+pub mod Filling
+pub mod Denoting
