@@ -19,7 +19,7 @@ use Rattle.merger.specs.Tables.{Passes}
 
 module _ (M : Kripke) (formed : WellFormed M) (part : ℕ → ℕ) (count : ℕ) (K : Components (M .frame) (Alike M) part count) where
   numbered : Numbering (Mutual (M .frame) (Alike M)) (M .frame .size) part count
-  numbered = components-mutual (M .frame) (Alike M) (alike-equivalence M) part count (dec-related M formed 0) K
+  numbered = components-mutual (M .frame) (Alike M) (alike-equivalence M) part count K (dec-related M formed 0)
 
   -- states of one component reach one another inside every class
   pub part-st : (r s t : ℕ) → s < M .frame .size → t < M .frame .size → part s ≡ part t → ST (M .frame) (Related M r) s t
