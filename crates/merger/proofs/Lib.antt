@@ -1,3 +1,4 @@
+pub mod Blank
 pub mod Gathering
 pub mod Looking
 pub mod Placing
@@ -6,3 +7,4 @@ pub mod Moving
 pub mod Rounding
 pub mod Promising
 pub mod Calling
+pub mod Drawing

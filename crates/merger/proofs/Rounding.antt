@@ -5,8 +5,9 @@ use mathlib.Core.Bool.{Bool, true, false}
 use mathlib.Core.Logic.{_↔_, _⊎_, inl, inr, ⊎-elim, ∥∥₁-elim, ∥∥₁-map}
 use mathlib.Core.HLevel.{⊥-prop}
 use native.Mathlib.Omega.{arith}
-use Rattle.std.proofs.shelf.Tests.{cases-bool, cases-eq}
+use Rattle.std.proofs.shelf.Tests.{cases-bool, cases-eq, both-ways}
 use Rattle.sets.specs.Sets.{bit, In}
+use Rattle.sets.proofs.Bits.{none-in, On as On-bit}
 use Rattle.kripke.specs.Models.{Kripke}
 use Rattle.kripke.specs.Relation.{ST, Related, Stable, Settles}
 use Rattle.kripke.specs.Numbering.{Numbering, Ranked}
@@ -17,7 +18,7 @@ use Rattle.kripke.proofs.Claims.{rounds-settle}
 use Rattle.merger.specs.declared.tables.Found.{Found}
 use Rattle.merger.specs.declared.tables.Rounds.{Rounds}
 use Rattle.merger.specs.Grids.{at, set-at, On}
-use Rattle.merger.specs.Tables.{part, class-of, Bounded, Advanced}
+use Rattle.merger.specs.Tables.{part, class-of, words-of, Bounded, Advanced}
 use Rattle.merger.specs.Analysed.{Unsettled, Surveyed, Tabled}
 use Rattle.merger.proofs.Moving.{round-parts}
 
@@ -73,7 +74,16 @@ module _ (M : Kripke) (r : ℕ) (F : Found) (S : Rounds) (A : Tabled M r F S) wh
         room = let m = A .made in ⊎-elim (λ p. omega (arith, p .1, z .1)) (λ p. omega (arith, p .1, z .1)) (stands-at M r (z .0) F S A (z .2));
         groups = A .groups;
         low = λ k h. let s = state-of k h in subst (λ x. at (S .class) x < S .classes) (s .2) (A .classes .ranked .below (s .0) (s .1));
+        some = λ c h empty.
+            let s = A .classes .ranked .member c h in
+            let on = A .groups .each c (part F (s .0)) .1 (below (s .0) (s .1), s .2) in
+            none-in (part F (s .0)) (subst (λ (b : ℕ). On-bit b (part F (s .0))) empty on);
         moves = λ k l h m. let p = O .moves k l h .0 m in subst (λ i. i < F .components) (p .4) (below (p .1) (p .2 .2));
+        spoken = let w = O .words in let f = O .formed .labels .few-words in omega arith;
+        within = λ k h a past.
+            let s = state-of k h in
+            let w = O .words in
+            sym (ap (λ i. words-of (at (F .facts) i) a) (s .2)) ∙ O .facts (s .0) (s .1) a ∙ O .formed .labels .within (s .0) a (omega arith);
         near = λ k l h b o.
             let s = state-of k h in
             let t = state-of l b in
@@ -143,7 +153,13 @@ module _ (F : Found) (S : Rounds) (meant : ∥ ((M : Kripke) × (r : ℕ) × Tab
       );
     };
     low = λ k h. at-most (suc (at (S .class) k)) (S .classes) (λ B. B .low k h);
+    some = λ c h empty. ∥∥₁-elim meant ⊥-prop (λ a. tabled-bounded (a .0) (a .1) F S (a .2) .some c h empty);
     moves = λ k l h m. at-most (suc l) (F .components) (λ B. B .moves k l h m);
+    spoken = at-most (F .words) 64 (λ B. B .spoken);
+    within = λ k h a past. ⊎-elim
+        (λ on. absurd (∥∥₁-elim meant ⊥-prop (λ x. both-ways _ (tabled-bounded (x .0) (x .1) F S (x .2) .within k h a past) on)))
+        (λ off. off)
+        (cases-bool (words-of (at (F .facts) k) a));
     near = λ k l h b o. equals (at (S .class) k) (at (S .class) l) (λ B. B .near k l h b o);
   }
 

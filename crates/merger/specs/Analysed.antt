@@ -3,23 +3,17 @@ use Prim.Native.Nat.{ℕ, _<_, _≤_}
 use mathlib.Core.Path.{_≡_}
 use mathlib.Core.Bool.{Bool, true, false}
 use mathlib.Core.Logic.{_↔_}
-use Rattle.kripke.specs.Words.{Words, SameWords}
+use Rattle.kripke.specs.Words.{SameWords}
 use Rattle.kripke.specs.Models.{Kripke, WellFormed, Alike}
 use Rattle.kripke.specs.Relation.{ST, Related, Stable, Settles}
 use Rattle.kripke.specs.Numbering.{Numbering}
 use Rattle.kripke.specs.Components.{Components}
-use Rattle.models.specs.declared.facts.Facts.{Facts}
-use Rattle.models.specs.Facts.{fact-words}
 use Rattle.survey.specs.Gaps.{Admitted}
 use Rattle.sets.specs.Sets.{In}
 use Rattle.merger.specs.declared.tables.Found.{Found}
 use Rattle.merger.specs.declared.tables.Rounds.{Rounds}
 use Rattle.merger.specs.Grids.{at, set-at, On, Groups}
-use Rattle.merger.specs.Tables.{part, class-of, Passes}
-
--- the words of a number of 64 bits
-abbrev pub words-of : ℕ → Words
-words-of bits = let f : Facts = record { bits = bits } in fact-words f
+use Rattle.merger.specs.Tables.{part, class-of, words-of, Passes}
 
 -- none of the first r rounds parted nothing
 abbrev pub Unsettled : Kripke → ℕ → Type 0
@@ -31,7 +25,7 @@ pub record Surveyed (M : Kripke) (F : Found) : Type 0 where
   pub admitted : Admitted (M .frame)
   pub states : F .states ≡ M .frame .size
   pub words : F .words ≡ M .labels .count
-  pub facts : (s : ℕ) → s < M .frame .size → SameWords (words-of (at (F .facts) s)) (M .labels .words s)
+  pub facts : (s : ℕ) → s < M .frame .size → SameWords (words-of (at (F .facts) (part F s))) (M .labels .words s)
   pub components : Components (M .frame) (Alike M) (part F) (F .components)
   pub moves : (k l : ℕ) → k < F .components → In (set-at (F .moves) k) l ↔ Passes (M .frame) (part F) k l
   pub labels : (c : ℕ → ℕ) × Numbering (Related M 0) (M .frame .size) c (F .labels)

@@ -4,9 +4,12 @@ use mathlib.Core.Path.{_≡_}
 use mathlib.Core.Bool.{true, false}
 use mathlib.Core.Logic.{_↔_}
 use Rattle.sets.specs.Sets.{In}
+use Rattle.kripke.specs.Words.{Words, Within}
 use Rattle.kripke.specs.Models.{Frame}
 use Rattle.kripke.specs.Paths.{Move}
 use Rattle.kripke.specs.Numbering.{Numbering}
+use Rattle.models.specs.declared.facts.Facts.{Facts}
+use Rattle.models.specs.Facts.{fact-words}
 use Rattle.merger.specs.declared.tables.Found.{Found}
 use Rattle.merger.specs.declared.tables.Rounds.{Rounds}
 use Rattle.merger.specs.Grids.{at, set-at, On, Groups, Outlook}
@@ -17,6 +20,10 @@ part F s = at (F .component) s
 
 abbrev pub class-of : Found → Rounds → ℕ → ℕ
 class-of F S s = at (S .class) (part F s)
+
+-- the words of a number of 64 bits
+abbrev pub words-of : ℕ → Words
+words-of bits = let f : Facts = record { bits = bits } in fact-words f
 
 -- some state of component k moves to one of component l; of one component, it is then cyclic
 abbrev pub Passes : Frame → (ℕ → ℕ) → ℕ → ℕ → Type 0
@@ -31,7 +38,10 @@ pub record Bounded (F : Found) (S : Rounds) : Type 0 where
   pub room : S .made ≤ 129
   pub groups : Groups (S .members) (S .class) (F .components)
   pub low : (k : ℕ) → k < F .components → at (S .class) k < S .classes
+  pub some : (c : ℕ) → c < S .classes → set-at (S .members) c .bits ≡ 0 → ⊥
   pub moves : (k l : ℕ) → k < F .components → In (set-at (F .moves) k) l → l < F .components
+  pub spoken : F .words ≤ 64
+  pub within : (k : ℕ) → k < F .components → Within (F .words) (words-of (at (F .facts) k))
   pub near : (k l : ℕ) → k < F .components → l < F .components → On (S .reach) k l → at (S .class) k ≡ at (S .class) l
 
 -- two components that one more round leaves together: one class, and the same classes ahead of what they reach

@@ -4,6 +4,8 @@ mod ahead;
 pub mod analysis;
 pub mod answers;
 pub mod calls;
+mod filling;
 mod parting;
 mod reach;
+pub mod reduced;
 pub mod tables;

@@ -8,9 +8,10 @@ pub struct Found {
     pub(crate) words: u8,
     pub(crate) components: usize,
     pub(crate) labels: usize,
-    // of each state: its words as bits, and its component
-    pub(crate) facts: [u64; 128],
+    // of each state: its component
     pub(crate) component: [u8; 128],
+    // of each component: its states' words as bits
+    pub(crate) facts: [u64; 128],
     // of each component: the components that its states move to, itself among them if it is cyclic
     pub(crate) moves: [Set; 128],
 }
