@@ -10,11 +10,12 @@ use Rattle.merger.specs.declared.analysis.Analysis.{Analysis}
 use Rattle.merger.specs.declared.answers.Refusal.{Refusal}
 use Rattle.merger.specs.declared.answers.Made.{Made}
 use Rattle.merger.specs.declared.answers.Ran.{Ran}
+use Rattle.merger.specs.declared.reduced.Reduced.{Reduced}
 use Rattle.merger.specs.Tables.{class-of}
 use Rattle.merger.specs.Analysed.{Tabled}
 use Rattle.merger.specs.Refusals.{Refused}
 use Rattle.merger.specs.Promise.{Promise, Reaches}
-use Rattle.merger.specs.Tells.{RoundTells, RunTells, ClassTells, TogetherTells}
+use Rattle.merger.specs.Tells.{RoundTells, RunTells, ClassTells, TogetherTells, ReducedTells}
 
 -- a is opened, and stands for the opened model M after r rounds
 pub record Analysed (M : Kripke) (r : ℕ) (a : Analysis) : Type 0 where
@@ -51,3 +52,8 @@ pub record ClassAnswer (a : Analysis) (s : ℕ) (answer : Result ℕ Refusal) : 
 pub record TogetherAnswer (a : Analysis) (s t : ℕ) (answer : Result Bool Refusal) : Type 0 where
   pub shut : a .opened ≡ false → Refused answer 21 None
   pub told : (M : Kripke) (r : ℕ) → Analysed M r a → TogetherTells M r s t answer
+
+pub record ReducedAnswer (a : Analysis) (x y : Reduced) (answer : Result (Unit {0}) Refusal) : Type 0 where
+  pub shut : a .opened ≡ false → Refused answer 21 None
+  pub told : (M : Kripke) (r : ℕ) → Analysed M r a → ReducedTells M r x y answer
+  pub refused : Cases answer (λ _. Unit {0}) (λ _. y ≡ x)

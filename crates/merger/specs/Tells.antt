@@ -13,7 +13,9 @@ use Rattle.merger.specs.declared.answers.Refusal.{Refusal}
 use Rattle.merger.specs.declared.answers.Made.{Made}
 use Rattle.merger.specs.declared.answers.Ran.{Ran}
 use Rattle.merger.specs.Refusals.{Refused}
+use Rattle.merger.specs.declared.reduced.Reduced.{Reduced}
 use Rattle.merger.specs.Promise.{Classes, Told}
+use Rattle.merger.specs.Reducing.{meaning, Fills}
 
 -- one more round: how many there are, how many classes C of so many rounds has, and whether the last one settled
 pub record RoundTells (M : Kripke) (r : ℕ) (answer : Result Made Refusal) : Type 0 where
@@ -37,3 +39,8 @@ pub record TogetherTells (M : Kripke) (r s t : ℕ) (answer : Result Bool Refusa
   pub second : s < M .frame .size → M .frame .size ≤ t → Refused answer 23 (Some t)
   pub told : s < M .frame .size → t < M .frame .size →
       Cases answer (λ b. Decides b (Related M r s t) × (Settles M r → Decides b (Agree M s M t)) × (b ≡ false → Told M r s t)) (λ _. ⊥)
+
+-- once settled, the model y that was given as x is filled; before that it is refused, and left as it was
+pub record ReducedTells (M : Kripke) (r : ℕ) (x y : Reduced) (answer : Result (Unit {0}) Refusal) : Type 0 where
+  pub going : (Settles M r → ⊥) → Refused answer 24 None × (y ≡ x)
+  pub settled : Settles M r → Cases answer (λ _. Fills M r (meaning y)) (λ _. ⊥)

@@ -3,12 +3,16 @@ ghost use mathlib.Core.Path.{_≡_};
 ghost use mathlib.Core.Bool.{true, false};
 ghost use Prim.Native.Nat.{ℕ, suc, _+_};
 ghost use Rattle.kripke.specs.Models.{Kripke};
-ghost use Rattle.merger.specs.Calls.{Analysed, RoundAnswer, RunAnswer, ClassAnswer, TogetherAnswer};
+ghost use Rattle.merger.specs.Calls.{Analysed, RoundAnswer, RunAnswer, ClassAnswer, TogetherAnswer, ReducedAnswer};
 use crate::advance::advance;
+use crate::ahead::outlooks;
 use crate::analysis::Analysis;
 use crate::answers::Made;
 use crate::answers::Ran;
 use crate::answers::Refusal;
+use crate::filling::reduce;
+use crate::reduced::Reduced;
+use sets::Set;
 
 impl Analysis {
     // One more round of what is opened and not settled.
@@ -77,5 +81,21 @@ impl Analysis {
         let first = self.class(s)?;
         let second = self.class(t)?;
         Ok(first == second)
+    }
+
+    /// Fills a reduced model: one state for each class, numbered as the class.
+    pub fn reduced(&self, out: &mut Reduced) -> Result<(), Refusal>
+        ensures { λ answer. ⌜ ReducedAnswer (now (self .entry)) (now (out .entry)) (now (out .exit)) answer ⌝ }
+    {
+        if !self.opened {
+            return Err(Refusal::NothingOpened);
+        }
+        if !self.rounds.settled {
+            return Err(Refusal::NotSettled);
+        }
+        let count = self.found.components;
+        let rows = outlooks(&self.rounds.reach, &self.found.moves, &self.rounds.class, &self.rounds.members, Set::below(count), count);
+        *out = reduce(&self.found, &self.rounds, &rows);
+        Ok(())
     }
 }
