@@ -4,6 +4,9 @@ pub mod Looking
 pub mod Placing
 pub mod Advancing
 pub mod Moving
+pub mod Tying
+pub mod Closing
+pub mod Speaking
 pub mod Rounding
 pub mod Promising
 pub mod Calling

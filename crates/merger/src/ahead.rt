@@ -9,19 +9,19 @@ ghost use Rattle.merger.specs.Grids.{at, set-at, On, Groups, Ahead, Several, O
 use crate::reach::union;
 use sets::Set;
 
-// The classes that a component moves to, of those that it does not share.
-fn classes_of(leaving: Set, class: &[u8; 128], members: &[Set; 128]) -> Set
-    requires low { ⌜ ((to : ℕ) → In leaving to → at (now class) to < 128) ⌝ }
-    requires groups { ⌜ ((to : ℕ) → In leaving to → (l : ℕ) → In (set-at (now members) (at (now class) to)) l → at (now class) l ≡ at (now class) to) ⌝ }
-    ensures { λ r. ⌜ ((c : ℕ) → In r c ↔ ((to : ℕ) × In leaving to × (at (now (class .entry)) to ≡ c))) ⌝ }
+// The numbers of the members of `places`, where `groups` has the places of each number.
+pub(crate) fn numbers_of(places: Set, number: &[u8; 128], groups: &[Set; 128]) -> Set
+    requires low { ⌜ ((p : ℕ) → In places p → at (now number) p < 128) ⌝ }
+    requires groups { ⌜ ((p : ℕ) → In places p → (q : ℕ) → In (set-at (now groups) (at (now number) p)) q → at (now number) q ≡ at (now number) p) ⌝ }
+    ensures { λ r. ⌜ ((c : ℕ) → In r c ↔ ((p : ℕ) × In places p × (at (now (number .entry)) p ≡ c))) ⌝ }
 {
     let mut all = Set::NONE;
-    let mut left = leaving;
-    while let Some((to, rest)) = left.split_first() {
-        let into = class[to] as usize;
-        all = all.with(into);
-        // one look for each class: the other moves into it tell nothing new
-        left = rest.minus(members[into]);
+    let mut left = places;
+    while let Some((place, rest)) = left.split_first() {
+        let one = number[place] as usize;
+        all = all.with(one);
+        // one look for each number: its other places tell nothing new
+        left = rest.minus(groups[one]);
     }
     all
 }
@@ -34,7 +34,7 @@ fn ahead(moves: Set, class: &[u8; 128], members: &[Set; 128], from: usize, count
     ensures { λ r. ⌜ ((c : ℕ) → In r c ↔ Ahead (In moves) (at (now (class .entry))) from c) ⌝ }
 {
     let own = class[from] as usize;
-    let others = classes_of(moves.minus(members[own]), class, members);
+    let others = numbers_of(moves.minus(members[own]), class, members);
     if moves.has(from) {
         others.with(own)
     } else {

@@ -7,7 +7,7 @@ ghost use Prim.Native.Nat.{ℕ, _+_, _<_, _≤_};
 ghost use lib.ListN.{length, getD};
 ghost use Rattle.std.specs.Orderings.{Decides};
 ghost use Rattle.sets.specs.Sets.{In};
-ghost use Rattle.merger.specs.Grids.{at, set-at, Kept, Narrowed};
+ghost use Rattle.merger.specs.Grids.{at, set-at, On, Kept, Narrowed};
 use crate::parting::Parting;
 use sets::Set;
 
@@ -39,6 +39,29 @@ pub(crate) fn union(row: &[u8; 128], sets: &[Set; 128], count: usize) -> Set
         }
     }
     all
+}
+
+// The marks of the components in a set.
+fn marks(set: Set) -> [u8; 128]
+    ensures { λ r. ⌜ ((l : ℕ) → (at r l ≡ 1) ↔ In set l) ⌝ }
+{
+    let mut row = [0; 128];
+    let mut left = set;
+    while let Some((l, rest)) = left.split_first() {
+        row[l] = 1;
+        left = rest;
+    }
+    row
+}
+
+// Marks in each row what is in the component's set.
+pub(crate) fn mark_all(reach: &mut [[u8; 128]; 128], sets: &[Set; 128], count: usize)
+    requires { ⌜ count ≤ 128 ⌝ }
+    ensures { λ _. ⌜ ((k l : ℕ) → k < count → On (now (reach .exit)) k l ↔ In (set-at (now (sets .entry)) k) l) ⌝ }
+{
+    for k in 0..count {
+        reach[k] = marks(sets[k]);
+    }
 }
 
 // Clears the marks of the components in `gone`.

@@ -5,7 +5,7 @@ ghost use Prim.Native.Nat.{ℕ, _<_, _≤_};
 ghost use lib.ListN.{length};
 ghost use Rattle.std.specs.Options.{Cases};
 ghost use Rattle.std.specs.Orderings.{Decides};
-ghost use Rattle.sets.specs.Sets.{In, Splits, members, nth-of};
+ghost use Rattle.sets.specs.Sets.{bit, In, Splits, members, nth-of};
 
 #[derive(Clone, Copy, PartialEq, Eq)]
 pub struct Set {
@@ -21,6 +21,13 @@ impl Set {
         ensures { λ r. ⌜ ((j : ℕ) → j < 128 → In r j) ⌝ }
     {
         Set { bits: u128::MAX }
+    }
+
+    /// The numbers of the bits that are set, bit 0 the lowest.
+    pub fn from_bits(bits: u64) -> Set
+        ensures { λ r. ⌜ ((j : ℕ) → In r j ↔ ((j < 64) × (bit bits j ≡ 1))) ⌝ }
+    {
+        Set { bits: bits as u128 }
     }
 
     /// All numbers below `n`; from 128 up no number is in a set.
