@@ -7,6 +7,7 @@ pub mod Moving
 pub mod Tying
 pub mod Closing
 pub mod Speaking
+pub mod Starting
 pub mod Rounding
 pub mod Promising
 pub mod Calling

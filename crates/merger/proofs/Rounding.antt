@@ -109,6 +109,7 @@ module _ (M : Kripke) (r : ℕ) (F : Found) (S : Rounds) (A : Tabled M r F S) wh
     pub tabled-advanced : Tabled M (suc r) F S′
     tabled-advanced = record {
       surveyed = O;
+      labels = A .labels;
       made = V .made ∙ ap (λ x. x + 1) (A .made) ∙ omega arith;
       classes = numbers;
       groups = V .groups;

@@ -28,12 +28,12 @@ pub record Surveyed (M : Kripke) (F : Found) : Type 0 where
   pub facts : (s : ℕ) → s < M .frame .size → SameWords (words-of (at (F .facts) (part F s))) (M .labels .words s)
   pub components : Components (M .frame) (Alike M) (part F) (F .components)
   pub moves : (k l : ℕ) → k < F .components → In (set-at (F .moves) k) l ↔ Passes (M .frame) (part F) k l
-  pub labels : (c : ℕ → ℕ) × Numbering (Related M 0) (M .frame .size) c (F .labels)
 
 -- the tables after r rounds: the classes are those of C_r, numbered by first member, the reach is ST of the next round,
 -- and the flag is set with the settling round
 pub record Tabled (M : Kripke) (r : ℕ) (F : Found) (S : Rounds) : Type 0 where
   pub surveyed : Surveyed M F
+  pub labels : (c : ℕ → ℕ) × Numbering (Related M 0) (M .frame .size) c (F .labels)
   pub made : S .made ≡ r
   pub classes : Numbering (Related M r) (M .frame .size) (class-of F S) (S .classes)
   pub groups : Groups (S .members) (S .class) (F .components)

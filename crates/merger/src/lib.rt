@@ -8,6 +8,7 @@ pub mod calls;
 mod closure;
 mod filling;
 mod labels;
+mod opening;
 mod parting;
 mod reach;
 pub mod reduced;
