@@ -7,7 +7,10 @@ use Rattle.std.proofs.shelf.Tests.{both-ways, cond-true, lt-ltb}
 use Rattle.kripke.specs.Words.{SameWords}
 use Rattle.kripke.specs.Models.{Frame, Kripke, WellFormed, Alike, words-at}
 use Rattle.kripke.specs.Components.{Components}
-use Rattle.survey.specs.Gaps.{Linked}
+use Rattle.survey.specs.Gaps.{Gaps, Sized, Linked}
+use Rattle.survey.specs.declared.gaps.Gap.{Gap}
+use Rattle.survey.specs.declared.gaps.Gap.the-variants.{NoStates, TooMany, EmptyRow, Nowhere}
+use Rattle.merger.specs.Tells.{After-scratch}
 use Rattle.sets.specs.declared.Set.{Set}
 use mathlib.Core.Bool.{false}
 use mathlib.Core.List.{List}
@@ -111,3 +114,39 @@ module _ (M : Kripke) (F : Found) (S : Rounds) (O : Surveyed M F) (B : Started F
     ended = λ e. absurd (both-ways _ (B .settled) e);
     going = λ e q h. absurd (omega arith);
   }
+
+-- the tables that an open has found and started, with the classes of alike states counted
+abbrev pub labelled : Found → ℕ → Found
+labelled F h = record {
+  states = F .states;
+  words = F .words;
+  components = F .components;
+  labels = h;
+  component = F .component;
+  facts = F .facts;
+  moves = F .moves;
+}
+
+pub begun : (M : Kripke) (F : Found) (S : Rounds) → Surveyed M F → Started F S → Tabled M 0 (labelled F (S .classes)) S
+begun M F S O B = started M (labelled F (S .classes)) S O′ B′ refl
+  where
+    O′ : Surveyed M (labelled F (S .classes))
+    O′ = record {
+      formed = O .formed;
+      admitted = O .admitted;
+      states = O .states;
+      words = O .words;
+      facts = O .facts;
+      components = O .components;
+      moves = O .moves;
+    }
+
+    B′ : Started (labelled F (S .classes)) S
+    B′ = record { made = B .made; settled = B .settled; classes = B .classes; groups = B .groups; reach = B .reach }
+
+-- a gap that is found before the rows are looked at
+pub early : (M : Kripke) (walks states : ℕ) (gap : Gap) → Gaps (M .frame) gap → (Sized (M .frame) → ⊥) → After-scratch M walks states gap
+early M walks states NoStates g n = tt
+early M walks states TooMany g n = tt
+early M walks states (EmptyRow s) g n = absurd (n (g .0))
+early M walks states (Nowhere s k) g n = absurd (n (g .0))

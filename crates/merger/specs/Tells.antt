@@ -2,11 +2,19 @@
 use Prim.Native.Nat.{ℕ, suc, _+_, _-_, min, _<_, _≤_}
 use mathlib.Core.Path.{_≡_}
 use mathlib.Core.Bool.{Bool, false}
+use mathlib.Core.Logic.{_⊎_}
 use Rattle.std.specs.Orderings.{Decides}
 use Rattle.std.specs.Results.{Cases}
 use Rattle.std.specs.declared.option.Option.the-variants.{None, Some}
 use Rattle.std.specs.declared.result.Result.{Result}
-use Rattle.kripke.specs.Models.{Kripke}
+use Rattle.kripke.specs.Models.{Kripke, Alike}
+use Rattle.kripke.specs.Components.{Components}
+use Rattle.survey.specs.Gaps.{Gaps, Sized, Admitted}
+use Rattle.survey.specs.declared.gaps.Gap.{Gap}
+use Rattle.survey.specs.declared.gaps.Gap.the-variants.{NoStates, TooMany, EmptyRow, Nowhere}
+use Rattle.merger.specs.declared.answers.Opened.{Opened}
+use Rattle.merger.specs.declared.answers.OpenRefusal.{OpenRefusal}
+use Rattle.merger.specs.declared.answers.OpenRefusal.the-variants.{Lacks, ShortScratch}
 use Rattle.kripke.specs.Formulas.{Agree}
 use Rattle.kripke.specs.Relation.{Related, Settles}
 use Rattle.merger.specs.declared.answers.Refusal.{Refusal}
@@ -16,6 +24,30 @@ use Rattle.merger.specs.Refusals.{Refused}
 use Rattle.merger.specs.declared.reduced.Reduced.{Reduced}
 use Rattle.merger.specs.Promise.{Classes, Told}
 use Rattle.merger.specs.Reducing.{meaning, Fills}
+
+-- there is memory for as many walk records and state numbers as there are states
+abbrev pub Roomy : Kripke → (walks states : ℕ) → Type 0
+Roomy M walks states = (M .frame .size ≤ walks) × (M .frame .size ≤ states)
+
+-- the rows are looked at where there is enough memory for the states
+abbrev pub After-scratch : Kripke → (walks states : ℕ) → Gap → Type 0
+After-scratch M walks states NoStates = Unit {0}
+After-scratch M walks states TooMany = Unit {0}
+After-scratch M walks states (EmptyRow s) = Roomy M walks states
+After-scratch M walks states (Nowhere s k) = Roomy M walks states
+
+-- M is refused for this cause, and for none that is looked for earlier, with memory for so many walk records and state numbers
+abbrev pub OpenRefuses : Kripke → (walks states : ℕ) → OpenRefusal → Type 0
+OpenRefuses M walks states (Lacks gap) = Gaps (M .frame) gap × After-scratch M walks states gap
+OpenRefuses M walks states ShortScratch = Sized (M .frame) × ((walks < M .frame .size) ⊎ (states < M .frame .size))
+
+-- M is accepted: its states, its components and its classes of alike states are counted
+pub record OpenTells (M : Kripke) (walks numbers : ℕ) (x : Opened) : Type 0 where
+  pub admitted : Admitted (M .frame)
+  pub roomy : Roomy M walks numbers
+  pub states : x .states ≡ M .frame .size
+  pub components : (f : ℕ → ℕ) × Components (M .frame) (Alike M) f (x .components)
+  pub labels : (f : ℕ → ℕ) × Classes M 0 f (x .labels)
 
 -- one more round: how many there are, how many classes C of so many rounds has, and whether the last one settled
 pub record RoundTells (M : Kripke) (r : ℕ) (answer : Result Made Refusal) : Type 0 where

@@ -1,6 +1,56 @@
 //! What the calls of an analysis answer.
 ghost use mathlib.Core.Path.{_≡_};
-ghost use Rattle.merger.specs.Refusals.{refusal-number};
+ghost use Rattle.merger.specs.declared.answers.OpenRefusal.the-variants.{Lacks as LacksGap};
+ghost use Rattle.merger.specs.Refusals.{refusal-number, open-cause, open-place, open-move};
+use survey::gaps::Gap;
+use survey::gaps::GapDebug;
+use survey::gaps::GapEq;
+use survey::gaps::GapNumbers;
+use survey::gaps::GapPartialEq;
+
+/// What an accepted open has found.
+#[derive(Clone, Copy, Debug, PartialEq, Eq)]
+pub struct Opened {
+    /// The states.
+    pub states: u16,
+    /// The components.
+    pub components: usize,
+    /// The classes of alike states.
+    pub labels: usize,
+}
+
+/// Why a model is not opened.
+#[derive(Clone, Copy, Debug, PartialEq, Eq)]
+pub enum OpenRefusal {
+    /// The model lacks something.
+    Lacks(Gap),
+    /// There is memory for fewer walk records or state numbers than there are states.
+    ShortScratch,
+}
+
+impl OpenRefusal {
+    /// The numbers of the refusal: its cause, the state and the move in that state's row, each 0 where there is none.
+    pub fn numbers(self) -> GapNumbers
+        ensures { λ r. ⌜ r .cause ≡ open-cause self ⌝ ∗ ⌜ r .place ≡ open-place self ⌝ ∗ ⌜ r .number ≡ open-move self ⌝ }
+    {
+        match self {
+            OpenRefusal::Lacks(gap) => gap.numbers(),
+            OpenRefusal::ShortScratch => GapNumbers {
+                cause: 13,
+                place: 0,
+                number: 0,
+            },
+        }
+    }
+}
+
+pub impl From<Gap> for OpenRefusal as OpenRefusalFromGap {
+    ghost converts = { λ gap r. r ≡ LacksGap gap };
+
+    fn from(gap: Gap) -> OpenRefusal {
+        OpenRefusal::Lacks(gap)
+    }
+}
 
 /// Why a call is refused.
 #[derive(Clone, Copy, Debug, PartialEq, Eq)]

@@ -3,18 +3,83 @@ ghost use mathlib.Core.Path.{_≡_};
 ghost use mathlib.Core.Bool.{true, false};
 ghost use Prim.Native.Nat.{ℕ, suc, _+_};
 ghost use Rattle.kripke.specs.Models.{Kripke};
-ghost use Rattle.merger.specs.Calls.{Analysed, RoundAnswer, RunAnswer, ClassAnswer, TogetherAnswer, ReducedAnswer};
+ghost use Rattle.merger.specs.Calls.{Analysed, OpenAnswer, RoundAnswer, RunAnswer, ClassAnswer, TogetherAnswer, ReducedAnswer};
 use crate::advance::advance;
 use crate::ahead::outlooks;
 use crate::analysis::Analysis;
 use crate::answers::Made;
+use crate::answers::OpenRefusal;
+use crate::answers::OpenRefusalFromGap;
+use crate::answers::Opened;
 use crate::answers::Ran;
 use crate::answers::Refusal;
 use crate::filling::reduce;
+use crate::opening::look_over;
+use crate::opening::start;
 use crate::reduced::Reduced;
+use crate::tables::Found;
+use crate::tables::Rounds;
+use components::Walk;
+use models::Model;
 use sets::Set;
+use survey::count_states;
+use survey::rows_of;
 
 impl Analysis {
+    /// An analysis in which nothing is opened.
+    pub fn new() -> Analysis
+        ensures { λ r. ⌜ r .opened ≡ false ⌝ }
+    {
+        let component = [0; 128];
+        let facts = [0; 128];
+        let moves = [Set::NONE; 128];
+        let found = Found {
+            states: 0,
+            words: 0,
+            components: 0,
+            labels: 0,
+            component,
+            facts,
+            moves,
+        };
+        let class = [0; 128];
+        let members = [Set::NONE; 128];
+        let reach = [[0; 128]; 128];
+        let rounds = Rounds {
+            made: 0,
+            settled: false,
+            classes: 0,
+            class,
+            members,
+            reach,
+        };
+        Analysis {
+            opened: false,
+            found,
+            rounds,
+        }
+    }
+
+    /// Opens a model, in place of what was opened before. The memory lent for walk records and state numbers is free afterwards.
+    pub fn open<M: Model>(&mut self, model: &M, walks: &mut [Walk], states: &mut [u16]) -> Result<Opened, OpenRefusal>
+        ensures { λ answer. ⌜ OpenAnswer (M·Model .means (now (model .entry))) (now (self .entry)) (now (self .exit)) (now (walks .entry)) (now (walks .exit)) (now (states .entry)) (now (states .exit)) answer ⌝ }
+    {
+        let size = count_states(model)? as usize;
+        if walks.len() < size || states.len() < size {
+            return Err(OpenRefusal::ShortScratch);
+        }
+        let rows = rows_of(model)?;
+        look_over(&mut self.found, model, &rows, walks, states);
+        start(&self.found, &mut self.rounds);
+        self.found.labels = self.rounds.classes;
+        self.opened = true;
+        Ok(Opened {
+            states: self.found.states,
+            components: self.found.components,
+            labels: self.found.labels,
+        })
+    }
+
     // One more round of what is opened and not settled.
     fn step(&mut self)
         requires { ⌜ now self .opened ≡ true ⌝ ∗ ⌜ now self .rounds .settled ≡ false ⌝ }
