@@ -12,3 +12,4 @@ pub mod Rounding
 pub mod Promising
 pub mod Calling
 pub mod Drawing
+pub mod Making
