@@ -3,3 +3,4 @@ pub mod Walking
 pub mod Filling
 pub mod Denoting
 pub mod Outcome
+pub mod Meaning
