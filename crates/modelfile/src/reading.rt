@@ -1,5 +1,5 @@
 //! Loads a model file into lent tables.
-ghost use Rattle.modelfile.specs.Loads.{Loads};
+ghost use Rattle.modelfile.specs.Loads.{Loads, Each-file-has-one-outcome};
 use crate::faults::FileFault;
 use crate::fill::fill_labels;
 use crate::fill::fill_rows;
@@ -32,4 +32,11 @@ pub fn load(file: &[u8], labels: &mut [Facts], offsets: &mut [u32], targets: &mu
         states: plan.states,
         targets: plan.targets,
     })
+}
+
+/// The law of `load`: whatever room the tables have, a file denotes one model or has one first fault, and not both.
+pub fn load_law() -> u8
+    ensures { λ _. ⌜ Each-file-has-one-outcome ⌝ }
+{
+    0
 }
