@@ -13,8 +13,14 @@ use std::test::*;
 fn numbers_read() -> Result<(), Fail> {
     check_eq(number_at(&[0xAC, 0x02], 0), Ok((300, 2)))?;
     check_eq(number_at(&[0x05, 0x7F, 0x00], 1), Ok((127, 2)))?;
-    check_eq(number_at(&[0x80, 0x00], 0), Err(NumberFault::NotFewestAt(0)))?;
-    check_eq(number_at(&[0x01, 0xAC, 0x80], 1), Err(NumberFault::CutShortAt(3)))?;
+    check_eq(
+        number_at(&[0x80, 0x00], 0),
+        Err(NumberFault::NotFewestAt(0)),
+    )?;
+    check_eq(
+        number_at(&[0x01, 0xAC, 0x80], 1),
+        Err(NumberFault::CutShortAt(3)),
+    )?;
     check_eq(number_at(&[0x01], 7), Err(NumberFault::CutShortAt(1)))?;
     // 2^64 - 1 is the largest; 2^64 is too large, and one too large already can still be cut short
     let mut file = [0xFF; 12];

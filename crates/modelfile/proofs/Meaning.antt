@@ -93,7 +93,7 @@ tables-mean labels rows valid =
       | inl l ↦ row-told (length labels) rows s (valid .sized .1) each (valid .rising) l
       | inr l ↦ row-past (length labels) rows s each l
     ] in
-    let frame : ℕ → (ℕ → List ℕ) → Kripke = λ n row. record { frame = record { size = n; row = row; }; labels = listed-labels 64 fact-words labels; } in
+    let frame : ℕ → (ℕ → List ℕ) → Kripke = λ n row. record { frame = record { size = n; row = row }; labels = listed-labels 64 fact-words labels } in
     ap (λ n. frame n (λ s. map (told n) (table-row n (offsets-of rows) (targets-of rows) s))) sized
     ∙ ap (frame (length labels)) (fun-ext row-of)
 

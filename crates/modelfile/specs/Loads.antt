@@ -24,7 +24,7 @@ pub record Tables : Type 0 where
 
 -- how many entries they have
 abbrev pub room-of : Tables → Room
-room-of t = record { labels = length (t .labels); offsets = length (t .offsets); targets = length (t .targets); }
+room-of t = record { labels = length (t .labels); offsets = length (t .offsets); targets = length (t .targets) }
 
 -- the fronts of the tables hold these labels and rows, and the entries behind are as they were
 pub record Filled (before after : Tables) (labels : List Facts) (rows : List (List ℕ)) : Type 0 where

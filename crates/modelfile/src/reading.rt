@@ -17,7 +17,12 @@ pub struct Loaded {
 /// Fills the fronts of the tables with the model that the file denotes: N labels, N + 1 offsets, where row `s` runs from
 /// offset `s` to just before offset `s + 1`, and the targets of all rows. The entries behind are left.
 /// A file that is not right is refused with its first fault, and then nothing is written.
-pub fn load(file: &[u8], labels: &mut [Facts], offsets: &mut [u32], targets: &mut [u16]) -> Result<Loaded, FileFault>
+pub fn load(
+    file: &[u8],
+    labels: &mut [Facts],
+    offsets: &mut [u32],
+    targets: &mut [u16],
+) -> Result<Loaded, FileFault>
     ensures { λ r. ⌜ Loads (now (file .entry)) (record { labels = now (labels .entry); offsets = now (offsets .entry); targets = now (targets .entry) }) (record { labels = now (labels .exit); offsets = now (offsets .exit); targets = now (targets .exit) }) r ⌝ }
 {
     let room = Room {
