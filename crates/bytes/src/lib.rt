@@ -3,8 +3,6 @@ ghost use Prim.Native.Nat.{_+_, _<_, _≤_};
 ghost use Rattle.std.specs.Orderings.{When};
 
 pub mod numbers;
-#[cfg(test)]
-mod tests;
 pub mod text;
 
 // Whether a piece so wide has room from `at` on, in a buffer of `len` bytes.

@@ -1,12 +1,12 @@
-//! Examples of numbers and of text.
-use crate::numbers::NumberFault;
-use crate::numbers::NumberFaultDebug;
-use crate::numbers::NumberFaultPartialEq;
-use crate::numbers::number_at;
-use crate::numbers::width;
-use crate::numbers::write_counted;
-use crate::numbers::write_number;
-use crate::text::write_line;
+//! Numbers and text in a buffer.
+use bytes::numbers::NumberFault;
+use bytes::numbers::NumberFaultDebug;
+use bytes::numbers::NumberFaultPartialEq;
+use bytes::numbers::number_at;
+use bytes::numbers::width;
+use bytes::numbers::write_counted;
+use bytes::numbers::write_number;
+use bytes::text::write_line;
 use std::test::*;
 
 #[test]
