@@ -185,9 +185,15 @@ fn limits() -> Result<(), Fail> {
     check_eq(marks, others)?;
     // the word is reached from everywhere, and no path is without it
     others[0] = 1;
-    check_eq(mark_states(&ring, &[True, Word(0), Until], &mut marks), Ok(()))?;
+    check_eq(
+        mark_states(&ring, &[True, Word(0), Until], &mut marks),
+        Ok(()),
+    )?;
     check_eq(marks, others)?;
-    check_eq(mark_states(&ring, &[Word(0), Not, Globally, Not], &mut marks), Ok(()))?;
+    check_eq(
+        mark_states(&ring, &[Word(0), Not, Globally, Not], &mut marks),
+        Ok(()),
+    )?;
     check_eq(marks, others)
 }
 
@@ -218,7 +224,10 @@ fn duals() -> Result<(), Fail> {
         check_eq(marks_of(&chain, &some), marks_of(&chain, &none))?;
         check_eq(marks_of(&swing, &some), marks_of(&swing, &none))?;
     }
-    check_eq(marks_of(&chain, &[Word(0), Word(1), Until]), Ok([1, 1, 0, 1, 1, 0]))?;
+    check_eq(
+        marks_of(&chain, &[Word(0), Word(1), Until]),
+        Ok([1, 1, 0, 1, 1, 0]),
+    )?;
     check_eq(
         marks_of(&chain, &[Word(0), Word(1), Or, Word(2), Until]),
         Ok([1, 1, 1, 0, 0, 0]),
