@@ -1,4 +1,10 @@
 //! Puts a formula to a model file: in which states is it true?
+ghost use mathlib.Core.Path.{_≡_};
+ghost use mathlib.Core.Logic.{_↔_};
+ghost use Prim.Native.Nat.{ℕ, _<_};
+ghost use Rattle.std.specs.Written.{decimal};
+ghost use Rattle.std.specs.declared.option.Option.the-variants.{Some};
+ghost use Rattle.ask.specs.Words.{Reads};
 use checker::check;
 use checker::steps::Refused;
 use checker::steps::Step;
@@ -27,14 +33,16 @@ The steps come in postfix order, operands first:
   f not     true where f is not
   f g or    true where f or g is
   f g EU    true where some path ends with g and has f before
-  f EG      true where some path that never ends has f throughout
+  f EG      true where some path of N moves has f throughout, for N states
 A file or a model that is not right gives one line instead: fault, its layer,
 its cause, its place, and the number of the move (0 where there is none).
 A formula that is not right gives: refused, its cause, and the step (from 0).
 ";
 
 // The number that stands in one or two digits, with no 0 to fill up.
-fn digits(text: &[u8]) -> Option<u8> {
+fn digits(text: &[u8]) -> Option<u8>
+    ensures { λ r. ⌜ ((n : ℕ) → (r ≡ Some n) ↔ ((n < 100) × (now (text .entry) ≡ decimal n))) ⌝ }
+{
     match text {
         [one @ b'0'..=b'9'] => Some(*one - b'0'),
         [ten @ b'1'..=b'9', one @ b'0'..=b'9'] => Some((*ten - b'0') * 10 + (*one - b'0')),
@@ -43,7 +51,9 @@ fn digits(text: &[u8]) -> Option<u8> {
 }
 
 // The step that a word of the command line stands for.
-fn step_of(word: &str) -> Option<Step> {
+fn step_of(word: &str) -> Option<Step>
+    ensures { λ r. ⌜ Reads (now (word .entry)) r ⌝ }
+{
     match word {
         "true" => Some(Step::True),
         "not" => Some(Step::Not),
@@ -90,14 +100,22 @@ fn ask(rt: &LibcRuntime) -> Result<(), AnyError> {
     let mut steps = Vec::new(rt.alloc());
     for word in env::args(rt)?.skip(1) {
         let Some(step) = step_of(&word) else {
-            println!(rt, "refused: '{word}' is no step; the steps are true, w0 to w63, not, or, EU, EG; 'ask help' says more")?;
+            println!(
+                rt,
+                "refused: '{word}' is no step; the steps are true, w0 to w63, not, or, EU, EG; 'ask help' says more"
+            )?;
             return Ok(());
         };
         steps.push(step)?;
     }
     let file = read_file(rt)?;
     let mut tables = Tables::new(rt.alloc())?;
-    match load(&file, &mut tables.labels, &mut tables.offsets, &mut tables.targets) {
+    match load(
+        &file,
+        &mut tables.labels,
+        &mut tables.offsets,
+        &mut tables.targets,
+    ) {
         Ok(Loaded { states, targets }) => {
             let n = states as usize;
             let model = Listed {
