@@ -4,8 +4,6 @@ ghost use Rattle.std.specs.Orderings.{When};
 
 pub mod numbers;
 pub mod text;
-#[cfg(test)]
-mod tests;
 
 // Whether a piece so wide has room from `at` on, in a buffer of `len` bytes.
 fn fits(len: usize, at: usize, wide: usize) -> bool

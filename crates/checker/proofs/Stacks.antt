@@ -51,8 +51,8 @@ module _ (M : Kripke) (rows : List Set) (linked : Linked (M .frame) rows) (n : �
       let Said : ℕ → Type 0 = λ k. In v s ↔ TrueAt (Goes rows) k (M .labels .words) x (In (getD xs 0 none)) (In (getD xs 1 none)) s in
       let told : Said (M .frame .size) = subst Said sized (got s (omega arith)) in
       let carried = step-over (M .frame .size) (Goes rows) (Move (M .frame))
-          (λ a b l p. let v = linked .states a l b .0 p in (v .2, v)) (λ a b l p. (p .2, linked .states a l b .1 p))
-          (M .labels .words) (In (getD xs 0 none)) (Holds M f) (In (getD xs 1 none)) (Holds M g) x is is′ s h in
+      (λ a b l p. let v = linked .states a l b .0 p in (v .2, v)) (λ a b l p. (p .2, linked .states a l b .1 p))
+      (M .labels .words) (In (getD xs 0 none)) (Holds M f) (In (getD xs 1 none)) (Holds M g) x is is′ s h in
       let so = made-holds M x f g s in
       (λ i. so .0 (carried .0 (told .0 i)), λ p. told .1 (carried .1 (so .1 p)))
 
@@ -60,18 +60,18 @@ module _ (M : Kripke) (rows : List Set) (linked : Linked (M .frame) rows) (n : �
     -- the operands from base on make way for the one that the step leaves
     pub stacked-more : (base : ℕ) (v : Set) → base + takes (step-at steps i) ≡ height →
         ((s : ℕ) → s < n → In v s ↔ TrueAt (Goes rows) n (M .labels .words) (step-at steps i)
-            (In (getD (take (height - base) (drop base stack)) 0 none)) (In (getD (take (height - base) (drop base stack)) 1 none)) s) →
+        (In (getD (take (height - base) (drop base stack)) 0 none)) (In (getD (take (height - base) (drop base stack)) 1 none)) s) →
         Stacked M steps (i + 1) (base + 1) (set stack base v)
     stacked-more base v w got =
         let x = step-at steps i in
         let xs : List Set = take (height - base) (drop base stack) in
         let f : Formula = made x (st .fs base) (st .fs (base + 1)) in
         let operand : (k : ℕ) → k < height - base → SetIs M (st .fs (base + k)) (getD xs k none) = λ k l.
-            subst (λ (y : Set). SetIs M (st .fs (base + k)) y)
-            (sym (getD-take (height - base) (drop base stack) k none l ∙ getD-drop base stack k none)) (st .sets (base + k) (omega arith)) in
+        subst (λ (y : Set). SetIs M (st .fs (base + k)) y)
+        (sym (getD-take (height - base) (drop base stack) k none l ∙ getD-drop base stack k none)) (st .sets (base + k) (omega arith)) in
         let here : base + 0 ≡ base = omega arith in
         let is : SetIs M f v = step-is x (st .fs base) (st .fs (base + 1)) xs v
-            (λ l. subst (λ (k : ℕ). SetIs M (st .fs k) (getD xs 0 none)) here (operand 0 (omega arith))) (λ l. operand 1 (omega arith)) got in
+        (λ l. subst (λ (k : ℕ). SetIs M (st .fs k) (getD xs 0 none)) here (operand 0 (omega arith))) (λ l. operand 1 (omega arith)) got in
         record {
           fs = put (st .fs) base f;
           read = spelled-more steps i (st .fs) height base h (st .read) w;

@@ -21,7 +21,6 @@ done-is (Done d) h = (d, refl)
 
 module _ (rows : ℕ → List ℕ) (P P′ : ℕ → Place) (nums nums′ : List ℕ) (c : ℕ) (w : Walk) (ws : List Walk) (I : Inv rows P nums (w ∷ ws) c)
     (all : length (rows (w .state)) ≤ w .next) (low : w .low ≡ w .at) (turn : Turned P P′ (w .at) c) where
-
   was-open : (s j : ℕ) → P′ s ≡ Open j → (P s ≡ Open j) × (j < w .at)
   was-open s j o = look (P s) refl
     where
@@ -36,6 +35,7 @@ module _ (rows : ℕ → List ℕ) (P P′ : ℕ → Place) (nums nums′ : List
   -- what is done: before, or from w up
   Old : ℕ → Type 0
   Old s = (d : ℕ) × (P s ≡ Done d)
+
   New : ℕ → Type 0
   New s = (j : ℕ) × (P s ≡ Open j) × (w .at ≤ j)
 
@@ -72,8 +72,8 @@ module _ (rows : ℕ → List ℕ) (P P′ : ℕ → Place) (nums nums′ : List
   new-on a b e h =
       ⊎-elim
       (⊎-elim
-          (λ p. let f : length (rows (w .state)) ≡ length (rows a) = ap (λ x. length (rows x)) (p .0) in absurd (omega (arith, p .1, e .1)))
-          (λ p. absurd (below-w ws (I .climbs .0) (I .marks .1) a (h .0) (e .0) (h .1) (h .2) p)))
+      (λ p. let f : length (rows (w .state)) ≡ length (rows a) = ap (λ x. length (rows x)) (p .0) in absurd (omega (arith, p .1, e .1)))
+      (λ p. absurd (below-w ws (I .climbs .0) (I .marks .1) a (h .0) (e .0) (h .1) (h .2) p)))
       (λ d. settled (h .0) (h .2) (P b) (subst (λ x. Settled (w ∷ ws) (h .0) (P x)) (e .2) d))
       (I .moves a (h .0) (e .0) (h .1) (e .1))
 
@@ -134,15 +134,18 @@ module _ (rows : ℕ → List ℕ) (P P′ : ℕ → Place) (nums nums′ : List
 
   pub close : Listed P′ nums′ → Inv rows P′ nums′ ws (c + 1)
   close stacked = record {
-      climbs = I .climbs .1;
-      marks = marks′ ws (I .climbs .0) (I .marks .1);
-      onward = λ s t i j os ot. I .onward s t i j (was-open s i os .0) (was-open t j ot .0);
-      back = λ s j o. let h : (P s ≡ Open j) × (j < w .at) = was-open s j o in ⊎-elim (λ b. absurd (omega (arith, b .0, h .1))) (λ b. b) (I .back s j (h .0));
-      moves = moves′;
-      shut = shut′; one = one′; apart = apart′;
-      below = λ s d o. ⊎-elim (λ h. omega (arith, I .below s d h)) (λ h. omega (arith, h .1)) (was-done s d o);
-      used = λ d l. ⊎-elim
-          (λ lt. let u : (s : ℕ) × (P s ≡ Done d) = I .used d lt in (u .0, turn .done (u .0) d (u .1)))
-          (λ ge. let e : c ≡ d = omega arith in (w .state, turn .gone (w .state) (w .at) (I .marks .0 .0) (omega arith) ∙ ap Done e))
-          (cases-lt d c);
-      stacked = stacked }
+    climbs = I .climbs .1;
+    marks = marks′ ws (I .climbs .0) (I .marks .1);
+    onward = λ s t i j os ot. I .onward s t i j (was-open s i os .0) (was-open t j ot .0);
+    back = λ s j o. let h : (P s ≡ Open j) × (j < w .at) = was-open s j o in ⊎-elim (λ b. absurd (omega (arith, b .0, h .1))) (λ b. b) (I .back s j (h .0));
+    moves = moves′;
+    shut = shut′;
+    one = one′;
+    apart = apart′;
+    below = λ s d o. ⊎-elim (λ h. omega (arith, I .below s d h)) (λ h. omega (arith, h .1)) (was-done s d o);
+    used = λ d l. ⊎-elim
+        (λ lt. let u : (s : ℕ) × (P s ≡ Done d) = I .used d lt in (u .0, turn .done (u .0) d (u .1)))
+        (λ ge. let e : c ≡ d = omega arith in (w .state, turn .gone (w .state) (w .at) (I .marks .0 .0) (omega arith) ∙ ap Done e))
+        (cases-lt d c);
+    stacked = stacked;
+  }

@@ -20,7 +20,6 @@ on w = marked w (w .low)
 
 module _ (rows : ℕ → List ℕ) (P P′ : ℕ → Place) (nums : List ℕ) (t : ℕ)
     (new : P t ≡ Unseen) (put : P′ t ≡ Open (length nums)) (else : (s : ℕ) → (s ≡ t → ⊥) → P′ s ≡ P s) where
-
   keep : (s j : ℕ) → P s ≡ Open j → P′ s ≡ Open j
   keep s j o = else s (λ e. unseen-open new (subst (λ x. P x ≡ Open j) e o)) ∙ o
 
@@ -46,7 +45,6 @@ module _ (rows : ℕ → List ℕ) (P P′ : ℕ → Place) (nums : List ℕ) (t
 
   module _ (c : ℕ) (w : Walk) (ws : List Walk) (I : Inv rows P nums (w ∷ ws) c)
       (there : w .next < length (rows (w .state))) (goal : target rows (w .state) (w .next) ≡ t) where
-
     lower : (s j : ℕ) → P s ≡ Open j → j < length nums
     lower s j o = at-below nums s j (I .stacked .listed s j o)
 
@@ -57,9 +55,9 @@ module _ (rows : ℕ → List ℕ) (P P′ : ℕ → Place) (nums : List ℕ) (t
     discover-onward a b i j oa ob le =
         ⊎-elim
         (λ ea. ⊎-elim
-            (λ eb. subst (λ x. Leads rows a x) (ea .0 ∙ sym (eb .0)) stop)
-            (λ pb. let h : j < length nums = lower b j pb in let k : i ≡ length nums = ea .1 in absurd (omega arith))
-            (was b j ob))
+        (λ eb. subst (λ x. Leads rows a x) (ea .0 ∙ sym (eb .0)) stop)
+        (λ pb. let h : j < length nums = lower b j pb in let k : i ≡ length nums = ea .1 in absurd (omega arith))
+        (was b j ob))
         (λ pa. ⊎-elim (λ eb. subst (λ x. Leads rows a x) (sym (eb .0)) (up a i pa)) (λ pb. I .onward a b i j pa pb le) (was b j ob))
         (was a i oa)
 
@@ -76,9 +74,9 @@ module _ (rows : ℕ → List ℕ) (P P′ : ℕ → Place) (nums : List ℕ) (t
         ⊎-elim
         (λ lt. inl (inr (inl (p .0, omega arith))))
         (λ ge. let le : w .next ≤ k = p .1 in
-            let e : k ≡ w .next = omega arith in
-            let same : target rows s k ≡ t = ap (λ x. target rows x k) (sym (p .0)) ∙ ap (λ x. target rows (w .state) x) e ∙ goal in
-            inr (subst (Settled (fresh t (length nums) ∷ on w ∷ ws) j) (sym (ap P′ same ∙ put)) (inl (omega arith))))
+        let e : k ≡ w .next = omega arith in
+        let same : target rows s k ≡ t = ap (λ x. target rows x k) (sym (p .0)) ∙ ap (λ x. target rows (w .state) x) e ∙ goal in
+        inr (subst (Settled (fresh t (length nums) ∷ on w ∷ ws) j) (sym (ap P′ same ∙ put)) (inl (omega arith))))
         (cases-lt (w .next) k)
 
     more : (j : ℕ) → j < length nums → (p : Place) → Settled (w ∷ ws) j p → Settled (fresh t (length nums) ∷ on w ∷ ws) j p
@@ -91,22 +89,24 @@ module _ (rows : ℕ → List ℕ) (P P′ : ℕ → Place) (nums : List ℕ) (t
         ⊎-elim
         (λ e. inl (inl (sym (e .0), omega arith)))
         (λ p. ⊎-elim (pend s j k p)
-            (λ h. inr (keep-seen (Settled (fresh t (length nums) ∷ on w ∷ ws) j) (λ z. z) (target rows s k) (more j (lower s j p) _ h)))
-            (I .moves s j k p l))
+        (λ h. inr (keep-seen (Settled (fresh t (length nums) ∷ on w ∷ ws) j) (λ z. z) (target rows s k) (more j (lower s j p) _ h)))
+        (I .moves s j k p l))
         (was s j o)
 
     pub discover : Inv rows P′ (t ∷ nums) (fresh t (length nums) ∷ on w ∷ ws) c
     discover = record {
-        climbs = ((omega (arith, lower _ _ (I .marks .0 .0)), all-map (λ v m. lower _ _ (m .0)) ws (I .marks .1)), I .climbs);
-        marks = ((put, omega arith, (t, put, stop)), (keep-mark w (I .marks .0), all-map keep-mark ws (I .marks .1)));
-        onward = discover-onward;
-        back = discover-back;
-        moves = discover-moves;
-        shut = λ s d k o l. keep-seen IsDone (λ z. z) (target rows s k) (I .shut s d k (was-done s d o) l);
-        one = λ a b d oa ob. I .one a b d (was-done a d oa) (was-done b d ob);
-        apart = λ a b d e oa ob. I .apart a b d e (was-done a d oa) (was-done b e ob);
-        below = λ s d o. I .below s d (was-done s d o);
-        used = λ d l. let u : (s : ℕ) × (P s ≡ Done d) = I .used d l in (u .0, keep-done (u .0) d (u .1));
-        stacked = record {
-            placed = (put, keep-placed nums (I .stacked .placed));
-            listed = λ s j o. ⊎-elim (λ e. inl (sym (e .0), e .1)) (λ p. inr (I .stacked .listed s j p)) (was s j o) } }
+      climbs = ((omega (arith, lower _ _ (I .marks .0 .0)), all-map (λ v m. lower _ _ (m .0)) ws (I .marks .1)), I .climbs);
+      marks = ((put, omega arith, (t, put, stop)), (keep-mark w (I .marks .0), all-map keep-mark ws (I .marks .1)));
+      onward = discover-onward;
+      back = discover-back;
+      moves = discover-moves;
+      shut = λ s d k o l. keep-seen IsDone (λ z. z) (target rows s k) (I .shut s d k (was-done s d o) l);
+      one = λ a b d oa ob. I .one a b d (was-done a d oa) (was-done b d ob);
+      apart = λ a b d e oa ob. I .apart a b d e (was-done a d oa) (was-done b e ob);
+      below = λ s d o. I .below s d (was-done s d o);
+      used = λ d l. let u : (s : ℕ) × (P s ≡ Done d) = I .used d l in (u .0, keep-done (u .0) d (u .1));
+      stacked = record {
+        placed = (put, keep-placed nums (I .stacked .placed));
+        listed = λ s j o. ⊎-elim (λ e. inl (sym (e .0), e .1)) (λ p. inr (I .stacked .listed s j p)) (was s j o);
+      };
+    }

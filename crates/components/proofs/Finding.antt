@@ -48,8 +48,8 @@ module _ (M : Kripke) (formed : WellFormed M) where
       let is : t ≡ cond (like M s u) u s = sym (e .2) ∙ turned s k there in
       ⊎-elim
       (λ yes′. let same : t ≡ u = is ∙ cond-true (like M s u) u s yes′ in
-          let near : Alike M s t = subst (Alike M s) (sym same) (like-tells M formed s u .0 yes′) in
-          inl (near, (k, state, near .1, there, sym same)))
+      let near : Alike M s t = subst (Alike M s) (sym same) (like-tells M formed s u .0 yes′) in
+      inl (near, (k, state, near .1, there, sym same)))
       (λ no′. inr (sym (is ∙ cond-false (like M s u) u s no′)))
       (cases-bool (like M s u))
 
@@ -128,9 +128,9 @@ module _ (F : Frame) (L : ℕ → ℕ → Type 0) (part : List ℕ) (count : ℕ
       ⊎-elim
       (λ e. inr (s, a .0, a .1, subst (λ x. Move F s x) (sym e) (p .2)))
       (λ ne. inl (⊎-elim
-          (λ l. (s, t, l, b .0, a .1, b .1))
-          (λ g. (t, s, omega arith, a .0, b .1, a .1))
-          (cases-lt s t)))
+      (λ l. (s, t, l, b .0, a .1, b .1))
+      (λ g. (t, s, omega arith, a .0, b .1, a .1))
+      (cases-lt s t)))
       (cases-eq s t)
 
   cyclic : (many all : Set) → (In many i ↔ Twice (F .size) part i) → (In all i ↔ (In many i ⊎ Turns F (F .size) part i)) → In all i ↔ Cyclic F S

@@ -27,9 +27,10 @@ pile-last xs n d l = ap reverse (take-more xs n d l) ∙ mirror-more (take n xs)
 
 -- a write into the first free cell
 pub pushed : {X : Type 0} (s : Stack X) (xs : List X) (x : X) → s .len < room s → xs ≡ set (now (s .cells)) (s .len) x → (reverse (take (s .len + 1) xs) ≡ x ∷ held s) × (length xs ≡ room s)
-pushed s xs x l e =
-    (ap (λ c. reverse (take (s .len + 1) c)) e ∙ ap reverse (take-more-set (now (s .cells)) (s .len) x l) ∙ mirror-more (take (s .len) (now (s .cells))) x,
-     ap length e ∙ length-set _ _ _)
+pushed s xs x l e = (
+  ap (λ c. reverse (take (s .len + 1) c)) e ∙ ap reverse (take-more-set (now (s .cells)) (s .len) x l) ∙ mirror-more (take (s .len) (now (s .cells))) x,
+  ap length e ∙ length-set _ _ _,
+)
 
 -- the entries are that of the last used cell, and those of the cells before it
 parted : {X : Type 0} (s : Stack X) (d : X) → 0 < s .len → held s ≡ getD (now (s .cells)) (s .len - 1) d ∷ reverse (take (s .len - 1) (now (s .cells)))
@@ -53,8 +54,9 @@ shortened {X} s p = by (now (s .cells)) (omega (arith, length-held s, s .within)
 pub replaced : {X : Type 0} (s : Stack X) (xs : List X) (x : X) (n : ℕ) → 0 < s .len → xs ≡ set (now (s .cells)) (s .len - 1) x → n ≡ s .len → (0 < length (held s)) × (reverse (take n xs) ≡ x ∷ drop 1 (held s)) × (length xs ≡ room s)
 replaced s xs x n p e same =
     let m : n ≡ s .len - 1 + 1 = omega arith in
-    let cells = now (s .cells) in
-    (omega (arith, length-held s),
-     ap (λ k. reverse (take k xs)) m ∙ ap (λ c. reverse (take (s .len - 1 + 1) c)) e ∙ ap reverse (take-more-set cells (s .len - 1) x (omega (arith, s .within))) ∙ mirror-more (take (s .len - 1) cells) x
-       ∙ ap (λ r. x ∷ r) (sym (ap (drop 1) (parted s x p))),
-     ap length e ∙ length-set _ _ _)
+    let cells = now (s .cells) in (
+      omega (arith, length-held s),
+      ap (λ k. reverse (take k xs)) m ∙ ap (λ c. reverse (take (s .len - 1 + 1) c)) e ∙ ap reverse (take-more-set cells (s .len - 1) x (omega (arith, s .within))) ∙ mirror-more (take (s .len - 1) cells) x
+          ∙ ap (λ r. x ∷ r) (sym (ap (drop 1) (parted s x p))),
+      ap length e ∙ length-set _ _ _,
+    )

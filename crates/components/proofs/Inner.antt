@@ -49,10 +49,12 @@ inner-some M formed s k t state e =
     let is = move-some (inner M .row s) k t e in
     let u : ℕ = getD (M .frame .row s) k nowhere in
     let turned : target (inner M .row) s k ≡ cond (like M s u) u s =
-        getD-map (λ t. cond (like M s t) t s) (M .frame .row s) k nowhere nowhere (simp length-map at (is .0)) in
-    (is .0, is .1,
-     subst (λ x. x < M .frame .size) (sym turned ∙ is .1)
-       (cond-both (like M s u) u s (λ x. x < M .frame .size) (λ yes′. like-tells M formed s u .0 yes′ .1) (λ _. state)))
+    getD-map (λ t. cond (like M s t) t s) (M .frame .row s) k nowhere nowhere (simp length-map at (is .0)) in (
+      is .0,
+      is .1,
+      subst (λ x. x < M .frame .size) (sym turned ∙ is .1)
+          (cond-both (like M s u) u s (λ x. x < M .frame .size) (λ yes′. like-tells M formed s u .0 yes′ .1) (λ _. state)),
+    )
 
 pub inner-none : (M : Kripke) (s k : ℕ) → None ≡ move (inner M .row s) k → length (inner M .row s) ≤ k
 inner-none M s k e = grind (arith, tells)

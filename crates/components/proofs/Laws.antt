@@ -59,8 +59,10 @@ to-top rows P nums w ws c I s j o = ⊎-elim (λ b. b .1) down (I .back s j o)
   where
     both : (v : Walk) → (v .at < w .at) × Mark rows P v → (v .at ≤ j) × Leads rows s (v .state) → Leads rows s (w .state)
     both v q b = join (b .1) (I .onward (v .state) (w .state) (v .at) (w .at) (q .1 .0) (I .marks .0 .0) (omega (arith, q .0)))
+
     pairs : (vs : List Walk) → All (λ v. v .at < w .at) vs → All (Mark rows P) vs → All (λ v. (v .at < w .at) × Mark rows P v) vs
     pairs [] a m = tt
     pairs (v ∷ vs) a m = ((a .0, m .0), pairs vs (a .1) (m .1))
+
     down : Back rows ws s j → Leads rows s (w .state)
     down b = any-all both ws (pairs ws (I .climbs .0) (I .marks .1)) b

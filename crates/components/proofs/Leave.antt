@@ -16,7 +16,6 @@ use Rattle.components.proofs.Laws.{join, any-map}
 
 module _ (rows : ℕ → List ℕ) (P : ℕ → Place) (nums : List ℕ) (c : ℕ) (w v : Walk) (ws : List Walk) (I : Inv rows P nums (w ∷ v ∷ ws) c)
     (all : length (rows (w .state)) ≤ w .next) (less : w .low < w .at) where
-
   -- an open state that leads to w leads to one of the walk below it
   down : (s j : ℕ) → w .at ≤ j → Leads rows s (w .state) → Back rows (v ∷ ws) s j
   down s j le p = ⊎-elim
@@ -47,19 +46,25 @@ module _ (rows : ℕ → List ℕ) (P : ℕ → Place) (nums : List ℕ) (c : �
   low : (l : ℕ) × (P l ≡ Open (min (v .low) (w .low))) × Leads rows (v .state) l
   low = ⊎-elim
       (λ lt. let m : v .low ≡ min (v .low) (w .low) = omega arith in
-          (I .marks .1 .0 .2 .0, I .marks .1 .0 .2 .1 ∙ ap Open m, I .marks .1 .0 .2 .2))
+      (I .marks .1 .0 .2 .0, I .marks .1 .0 .2 .1 ∙ ap Open m, I .marks .1 .0 .2 .2))
       (λ ge. let m : w .low ≡ min (v .low) (w .low) = omega arith in
-          (I .marks .0 .2 .0, I .marks .0 .2 .1 ∙ ap Open m, join (I .onward (v .state) (w .state) (v .at) (w .at) (I .marks .1 .0 .0) (I .marks .0 .0) (omega (arith, I .climbs .0 .0))) (I .marks .0 .2 .2)))
+      (I .marks .0 .2 .0, I .marks .0 .2 .1 ∙ ap Open m, join (I .onward (v .state) (w .state) (v .at) (w .at) (I .marks .1 .0 .0) (I .marks .0 .0) (omega (arith, I .climbs .0 .0))) (I .marks .0 .2 .2)))
       (cases-lt (v .low) (w .low))
 
   pub leave : Inv rows P nums (lowest v (w .low) ∷ ws) c
   leave = record {
-      climbs = I .climbs .1;
-      marks = ((I .marks .1 .0 .0, omega (arith, I .marks .1 .0 .1), low), I .marks .1 .1);
-      onward = I .onward;
-      back = λ s j o. again s j (back′ s j o);
-      moves = λ s j k o h. ⊎-elim (λ p. inl (pend s k h p)) (λ d. inr (settle j _ d)) (I .moves s j k o h);
-      shut = I .shut; one = I .one; apart = I .apart; below = I .below; used = I .used; stacked = I .stacked }
+    climbs = I .climbs .1;
+    marks = ((I .marks .1 .0 .0, omega (arith, I .marks .1 .0 .1), low), I .marks .1 .1);
+    onward = I .onward;
+    back = λ s j o. again s j (back′ s j o);
+    moves = λ s j k o h. ⊎-elim (λ p. inl (pend s k h p)) (λ d. inr (settle j _ d)) (I .moves s j k o h);
+    shut = I .shut;
+    one = I .one;
+    apart = I .apart;
+    below = I .below;
+    used = I .used;
+    stacked = I .stacked;
+  }
 
 -- it is not the only one of the walk
 pub not-alone : (rows : ℕ → List ℕ) (P : ℕ → Place) (nums : List ℕ) (c : ℕ) (w : Walk) → Inv rows P nums (w ∷ []) c → w .low < w .at → ⊥

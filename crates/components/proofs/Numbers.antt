@@ -57,7 +57,6 @@ giving-none place part = record {
 
 module _ (place : List Place) (s : ℕ) (part₀ part : List ℕ) (given : List (Option ℕ)) (count : ℕ) (many : Set)
     (before : Giving place s part₀ part given count many) (inside : s < length part) (c i : ℕ) (at : spot place s ≡ Done c) where
-
   abbrev part′ : List ℕ
   part′ = set part s i
 
@@ -81,7 +80,7 @@ module _ (place : List Place) (s : ℕ) (part₀ part : List ℕ) (given : List 
   parted j h = ⊎-elim
       (λ e. let a : h .0 < s = omega (arith, h .2) in inr (h .0, a, sym (kept-below (h .0) a) ∙ h .4, sym here ∙ ap (number part′) (sym e) ∙ h .5))
       (λ ne. let b : h .1 < s = omega (arith, h .3) in let a : h .0 < s = omega (arith, h .2) in
-          inl (h .0, h .1, h .2, b, sym (kept-below (h .0) a) ∙ h .4, sym (kept-below (h .1) b) ∙ h .5))
+      inl (h .0, h .1, h .2, b, sym (kept-below (h .0) a) ∙ h .4, sym (kept-below (h .1) b) ∙ h .5))
       (cases-eq (h .1) s)
 
   -- the component of s has the number i already
@@ -99,12 +98,13 @@ module _ (place : List Place) (s : ℕ) (part₀ part : List ℕ) (given : List 
                 (λ old. earlier j (before .numbered .twice j .0 old))
                 (λ new. (t .0, s, t .1, omega arith, first ∙ sym (new .0), here ∙ sym (new .0)))
                 (with′ j .0 h)),
-            (λ h. with′ j .1 (⊎-elim (λ old. inl (before .numbered .twice j .1 old)) (λ new. inr (sym (new .3), below)) (parted j h))));
+            (λ h. with′ j .1 (⊎-elim (λ old. inl (before .numbered .twice j .1 old)) (λ new. inr (sym (new .3), below)) (parted j h))),
+          );
         };
         of = λ d k q. let u = before .of d k q in (u .0, omega (arith, u .1), u .2, kept-below (u .0) (u .1) ∙ u .3);
         has = λ u d l q. ⊎-elim
             (λ same. let f : d ≡ c = done-same (ap (spot place) (sym same) ∙ q) at in
-                ap (λ x. getD given x None) f ∙ e ∙ ap Some (sym here ∙ ap (number part′) (sym same)))
+            ap (λ x. getD given x None) f ∙ e ∙ ap Some (sym here ∙ ap (number part′) (sym same)))
             (λ ne. let b : u < s = omega arith in before .has u d b q ∙ ap Some (sym (kept-below u b)))
             (cases-eq u s);
         few = omega (arith, before .few);
@@ -132,7 +132,8 @@ giving-new place s part₀ part given count many before inside c at small e =
           (λ h. ⊎-elim
               (λ old. before .numbered .twice j .1 old)
               (λ new. absurd (omega (arith, before .numbered .numbering .ranked .below (new .0) (new .1), new .2, new .3)))
-              (parted place s part₀ part given count many before inside c count at j h)));
+              (parted place s part₀ part given count many before inside c count at j h)),
+        );
       };
       of = λ d k q. ⊎-elim
           (λ f. (s, omega arith, at ∙ ap Done (sym f), here′ ∙ some-same (sym same′ ∙ ap (λ x. getD given′ x None) (sym f) ∙ q)))
@@ -140,11 +141,11 @@ giving-new place s part₀ part given count many before inside c at small e =
           (cases-eq d c);
       has = λ u d l q. ⊎-elim
           (λ same. let f : d ≡ c = done-same (ap (spot place) (sym same) ∙ q) at in
-              ap (λ x. getD given′ x None) f ∙ same′ ∙ ap Some (sym here′ ∙ ap (number part′) (sym same)))
+          ap (λ x. getD given′ x None) f ∙ same′ ∙ ap Some (sym here′ ∙ ap (number part′) (sym same)))
           (λ ne.
-              let b : u < s = omega arith in
-              let old = before .has u d b q in
-              other d (λ f. none-some e (ap (λ x. getD given x None) (sym f) ∙ old)) ∙ old ∙ ap Some (sym (below u b)))
+          let b : u < s = omega arith in
+          let old = before .has u d b q in
+          other d (λ f. none-some e (ap (λ x. getD given x None) (sym f) ∙ old)) ∙ old ∙ ap Some (sym (below u b)))
           (cases-eq u s);
       few = omega (arith, before .few);
       room = length-set given c (Some count) ∙ before .room;

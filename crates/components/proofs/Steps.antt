@@ -27,7 +27,6 @@ moved Q p q r h = rw p (rw q (rw r h))
 -- the walk is a list that is known to have the top w
 module _ (G : Frame) (place : List Place) (c : ℕ) (nums : List ℕ) (all : List Walk) (w : Walk)
     (top : all ≡ w ∷ drop 1 all) (on : Going G place c nums all) where
-
   I : Inv (G .row) (spot place) nums (w ∷ drop 1 all) c
   I = subst (λ x. Inv (G .row) (spot place) nums x c) top (on .keeps)
 
@@ -52,7 +51,6 @@ module _ (G : Frame) (place : List Place) (c : ℕ) (nums : List ℕ) (all : Lis
 
   module _ (short : (s : ℕ) → length (G .row s) ≤ 4096) (wide : G .size ≤ length place) (t : ℕ) (inside : t < G .size)
       (there : w .next < length (G .row (w .state))) (goal : target (G .row) (w .state) (w .next) ≡ t) where
-
     abbrev entered : List Place
     entered = set place t (Open (length nums))
 
@@ -66,21 +64,25 @@ module _ (G : Frame) (place : List Place) (c : ℕ) (nums : List ℕ) (all : Lis
     met new =
         let one : unseen (G .size) (spot place) ≡ unseen (G .size) (spot entered) + 1 = unseen-put (G .size) (spot place) (spot entered) t inside new (ap unmet put) else in
         record {
-            going = record {
-                keeps = discover (G .row) (spot place) (spot entered) nums t new put else c w (drop 1 all) I there goal;
-                fits = record {
-                    outside = λ s l. else s (λ q. omega arith) ∙ F .outside s l;
-                    numbers = omega (arith, F .numbers);
-                    walks = omega (arith, F .walks) } };
-            falls = omega (arith, short t);
-            seen = λ s u. ⊎-elim (λ q. absurd (unseen-open (ap (spot entered) (sym q) ∙ u) put)) (λ ne. sym (else s ne) ∙ u) (cases-eq s t) }
+          going = record {
+            keeps = discover (G .row) (spot place) (spot entered) nums t new put else c w (drop 1 all) I there goal;
+            fits = record {
+              outside = λ s l. else s (λ q. omega arith) ∙ F .outside s l;
+              numbers = omega (arith, F .numbers);
+              walks = omega (arith, F .walks);
+            };
+          };
+          falls = omega (arith, short t);
+          seen = λ s u. ⊎-elim (λ q. absurd (unseen-open (ap (spot entered) (sym q) ∙ u) put)) (λ ne. sym (else s ne) ∙ u) (cases-eq s t);
+        }
 
     -- the places stay, and the top has looked at one move more
     looked : (l : ℕ) → Inv (G .row) (spot place) nums (marked w l ∷ drop 1 all) c → Next G place (w ∷ drop 1 all) place c nums (marked w l ∷ drop 1 all)
     looked l i = record {
-        going = record { keeps = i; fits = record { outside = F .outside; numbers = F .numbers; walks = F .walks } };
-        falls = omega arith;
-        seen = λ s u. u }
+      going = record { keeps = i; fits = record { outside = F .outside; numbers = F .numbers; walks = F .walks } };
+      falls = omega arith;
+      seen = λ s u. u;
+    }
 
     after : (p : Place) → spot place t ≡ p → (place′ : List Place) (nums′ : List ℕ) (ws′ : List Walk) → Follows p place place′ nums nums′ all ws′ w t → Next G place (w ∷ drop 1 all) place′ c nums′ ws′
     after Unseen e place′ nums′ ws′ f = moved (λ a b k. Next G place (w ∷ drop 1 all) a c b k) (f .0) (f .1) (f .2) (met e)
@@ -102,11 +104,13 @@ module _ (G : Frame) (place : List Place) (c : ℕ) (nums : List ℕ) (all : Lis
         step place′ c′ nums′ ws′
         (moved (λ a b k. Next G place (w ∷ drop 1 all) place′ a b k) (h .count) (refl {a = nums′}) (h .walk)
         (record {
-            going = record {
-                keeps = close (G .row) (spot place) (spot place′) nums nums′ c w (drop 1 all) I done low (h .turned) (h .stacked);
-                fits = record { outside = λ s l. h .turned .unseen s (F .outside s l); numbers = omega (arith, F .numbers, at-inside); walks = omega (arith, F .walks) } };
-            falls = omega arith;
-            seen = turned-unseen (spot place) (spot place′) (w .at) c (h .turned) }))
+          going = record {
+            keeps = close (G .row) (spot place) (spot place′) nums nums′ c w (drop 1 all) I done low (h .turned) (h .stacked);
+            fits = record { outside = λ s l. h .turned .unseen s (F .outside s l); numbers = omega (arith, F .numbers, at-inside); walks = omega (arith, F .walks) };
+          };
+          falls = omega arith;
+          seen = turned-unseen (spot place) (spot place′) (w .at) c (h .turned);
+        }))
 
     -- the low mark is handed on to the one below
     pub passed : (w .low ≡ w .at → ⊥) → (place′ : List Place) (c′ : ℕ) (nums′ : List ℕ) (ws′ : List Walk) → place′ ≡ place → c′ ≡ c → nums′ ≡ nums → ws′ ≡ lowest-top (drop 1 all) (w .low) → Next G place all place′ c′ nums′ ws′
@@ -117,8 +121,10 @@ module _ (G : Frame) (place : List Place) (c : ℕ) (nums : List ℕ) (all : Lis
         handed : (ws : List Walk) → Inv (G .row) (spot place) nums (w ∷ ws) c → Fit (G .size) (spot place) nums (w ∷ ws) c → Next G place (w ∷ ws) place c nums (lowest-top ws (w .low))
         handed [] i f = absurd (not-alone (G .row) (spot place) nums c w i (omega (arith, i .marks .0 .1)))
         handed (v ∷ vs) i f = record {
-            going = record {
-                keeps = leave (G .row) (spot place) nums c w v vs i done (omega (arith, i .marks .0 .1));
-                fits = record { outside = f .outside; numbers = f .numbers; walks = omega (arith, f .walks) } };
-            falls = omega arith;
-            seen = λ s u. u }
+          going = record {
+            keeps = leave (G .row) (spot place) nums c w v vs i done (omega (arith, i .marks .0 .1));
+            fits = record { outside = f .outside; numbers = f .numbers; walks = omega (arith, f .walks) };
+          };
+          falls = omega arith;
+          seen = λ s u. u;
+        }

@@ -20,10 +20,14 @@ pub record Taken (place₀ place : List Place) (nums : List ℕ) (c : ℕ) : Typ
 -- none is taken yet
 pub take-none : (place : List Place) (nums : List ℕ) (c : ℕ) → Listed (spot place) nums → Taken place place nums c
 take-none place nums c at = record {
-    turned = record {
-        gone = λ s j o h. absurd (omega (arith, at-below nums s j (at .listed s j o)));
-        left = λ s j o h. o; done = λ s d o. o; unseen = λ s o. o };
-    stacked = at }
+  turned = record {
+    gone = λ s j o h. absurd (omega (arith, at-below nums s j (at .listed s j o)));
+    left = λ s j o h. o;
+    done = λ s d o. o;
+    unseen = λ s o. o;
+  };
+  stacked = at;
+}
 
 -- a state with a place is one of the table's
 pub open-within : (place : List Place) (x j : ℕ) → spot place x ≡ Open j → x < length place
@@ -47,9 +51,9 @@ module _ (place₀ place : List Place) (x : ℕ) (nums : List ℕ) (c : ℕ) (h 
   gone′ s j o le = ⊎-elim
       (λ lt. stays s (Done c) (λ e. open-done refl e) (h .turned .gone s j o (omega arith)))
       (λ ge. let e : j ≡ length nums = omega arith in
-          ⊎-elim (λ q. ap (spot (set place x (Done c))) (sym (q .0)) ∙ put)
-              (λ q. absurd (omega (arith, at-below nums s j q)))
-              (h .stacked .listed s j (h .turned .left s j o (omega arith))))
+      ⊎-elim (λ q. ap (spot (set place x (Done c))) (sym (q .0)) ∙ put)
+      (λ q. absurd (omega (arith, at-below nums s j q)))
+      (h .stacked .listed s j (h .turned .left s j o (omega arith))))
       (cases-lt (length nums) j)
 
   placed′ : (ys : List ℕ) → length ys ≤ length nums → Placed (spot place) ys → Placed (spot (set place x (Done c))) ys
@@ -58,17 +62,20 @@ module _ (place₀ place : List Place) (x : ℕ) (nums : List ℕ) (c : ℕ) (h 
 
   pub take-more : Taken place₀ (set place x (Done c)) nums c
   take-more = record {
-      turned = record {
-          gone = gone′;
-          left = λ s j o l. stays s (Open j) (λ e. let f : length nums ≡ j = open-open refl e in omega arith) (h .turned .left s j o (omega arith));
-          done = λ s d o. stays s (Done d) (λ e. open-done refl e) (h .turned .done s d o);
-          unseen = λ s o. stays s Unseen (λ e. unseen-open e refl) (h .turned .unseen s o) };
-      stacked = record {
-        placed = placed′ nums (omega arith) (h .stacked .placed .1);
-        listed = λ s j o. ⊎-elim
+    turned = record {
+      gone = gone′;
+      left = λ s j o l. stays s (Open j) (λ e. let f : length nums ≡ j = open-open refl e in omega arith) (h .turned .left s j o (omega arith));
+      done = λ s d o. stays s (Done d) (λ e. open-done refl e) (h .turned .done s d o);
+      unseen = λ s o. stays s Unseen (λ e. unseen-open e refl) (h .turned .unseen s o);
+    };
+    stacked = record {
+      placed = placed′ nums (omega arith) (h .stacked .placed .1);
+      listed = λ s j o. ⊎-elim
           (λ q. absurd (open-done o (ap (spot (set place x (Done c))) q ∙ put)))
           (λ ne. ⊎-elim (λ q. absurd (ne (sym (q .0)))) (λ q. q) (h .stacked .listed s j (sym (other s ne) ∙ o)))
-          (cases-eq s x) } }
+          (cases-eq s x);
+    };
+  }
 
 -- the same, as the code meets it
 pub took : (place₀ place place′ : List Place) (all : List ℕ) (c d x : ℕ) (nums : List ℕ) → all ≡ x ∷ nums → place′ ≡ set place x (Done d) → d ≡ c → Taken place₀ place all c → Taken place₀ place′ nums c

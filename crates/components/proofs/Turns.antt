@@ -17,7 +17,6 @@ turns-none F part many i = (inl, ⊎-elim (λ h. h) (λ h. absurd (omega (arith,
 module _ (F : Frame) (part : List ℕ) (s : ℕ) (many old new : Set)
     (before : (i : ℕ) → In old i ↔ (In many i ⊎ Turns F s part i))
     (more : (j : ℕ) → In new j ↔ (In old j ⊎ ((j ≡ number part s) × Move F s s))) where
-
   longer : (i : ℕ) → Turns F s part i → Turns F (s + 1) part i
   longer i h = (h .0, omega (arith, h .1), h .2, h .3)
 
@@ -36,4 +35,5 @@ module _ (F : Frame) (part : List ℕ) (s : ℕ) (many old new : Set)
         (more i .0 h)),
     ⊎-elim
         (λ h. more i .1 (inl (before i .1 (inl h))))
-        (λ h. more i .1 (⊎-elim (λ t. inl (before i .1 (inr t))) inr (parted i h))))
+        (λ h. more i .1 (⊎-elim (λ t. inl (before i .1 (inr t))) inr (parted i h))),
+  )

@@ -38,12 +38,12 @@ pub unseen-put : (n : ℕ) (P P′ : ℕ → Place) (t : ℕ) → t < n → P t 
 unseen-put zero P P′ t l u w else = absurd (not-suc-le-zero l)
 unseen-put (suc n) P P′ t l u w else = ⊎-elim
     (λ e. let a : unmet (P n) ≡ 1 = ap unmet (ap P (sym e) ∙ u) in
-        let b : unmet (P′ n) ≡ 0 = ap (λ x. unmet (P′ x)) (sym e) ∙ w in
-        let r : unseen n P′ ≡ unseen n P = unseen-same n P P′ (λ s k. ap unmet (else s (λ q. omega arith))) in
-        omega arith)
+    let b : unmet (P′ n) ≡ 0 = ap (λ x. unmet (P′ x)) (sym e) ∙ w in
+    let r : unseen n P′ ≡ unseen n P = unseen-same n P P′ (λ s k. ap unmet (else s (λ q. omega arith))) in
+    omega arith)
     (λ ne. let a : unmet (P′ n) ≡ unmet (P n) = ap unmet (else n (λ q. ne (sym q))) in
-        let r : unseen n P ≡ unseen n P′ + 1 = unseen-put n P P′ t (omega arith) u w else in
-        omega arith)
+    let r : unseen n P ≡ unseen n P′ + 1 = unseen-put n P P′ t (omega arith) u w else in
+    omega arith)
     (cases-eq t n)
 
 -- a component is closed

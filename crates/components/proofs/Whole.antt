@@ -28,11 +28,13 @@ module _ (G : Frame) (place : List Place) (c t : ℕ) (wide : G .size ≤ length
       let else : (s : ℕ) → (s ≡ t → ⊥) → spot (set place t (Open 0)) s ≡ spot place s = λ s ne. getD-set-other place t s (Open 0) Unseen ne in
       let one : unseen (G .size) (spot place) ≡ unseen (G .size) (spot (set place t (Open 0))) + 1 = unseen-put (G .size) (spot place) (spot (set place t (Open 0))) t l new (ap unmet put) else in
       record {
-          keeps = begin (G .row) (spot place) (spot (set place t (Open 0))) t c I new put else;
-          fits = record {
-              outside = λ s h. else s (λ q. omega arith) ∙ F .outside s h;
-              numbers = omega (arith, F .numbers);
-              walks = omega (arith, F .walks) } }
+        keeps = begin (G .row) (spot place) (spot (set place t (Open 0))) t c I new put else;
+        fits = record {
+          outside = λ s h. else s (λ q. omega arith) ∙ F .outside s h;
+          numbers = omega (arith, F .numbers);
+          walks = omega (arith, F .walks);
+        };
+      }
 
   -- a walk begins where no walk is on
   pub begun : (nums : List ℕ) (all : List Walk) → all ≡ [] → Going G place c nums all →
@@ -59,31 +61,36 @@ entered place place′ t q l e s u =
 -- at the start
 pub none : (G : Frame) (place : List Place) → ((s : ℕ) → spot place s ≡ Unseen) → (nums : List ℕ) (ws : List Walk) → nums ≡ [] → ws ≡ [] → Going G place 0 nums ws
 none G place u nums ws en ew = rw en (rw ew (record {
-    keeps = record {
-        climbs = tt; marks = tt;
-        onward = λ s t i j o. absurd (unseen-open (u s) o);
-        back = λ s j o. absurd (unseen-open (u s) o);
-        moves = λ s j k o. absurd (unseen-open (u s) o);
-        shut = λ s d k o. absurd (unseen-done (u s) o);
-        one = λ s t d o. absurd (unseen-done (u s) o);
-        apart = λ s t d e o. absurd (unseen-done (u s) o);
-        below = λ s d o. absurd (unseen-done (u s) o);
-        used = λ d l. absurd (omega arith);
-        stacked = record { placed = tt; listed = λ s j o. absurd (unseen-open (u s) o) } };
-    fits = record { outside = λ s l. u s; numbers = omega (arith, unseen-few (G .size) (spot place)); walks = omega (arith, unseen-few (G .size) (spot place)) } }))
+  keeps = record {
+    climbs = tt;
+    marks = tt;
+    onward = λ s t i j o. absurd (unseen-open (u s) o);
+    back = λ s j o. absurd (unseen-open (u s) o);
+    moves = λ s j k o. absurd (unseen-open (u s) o);
+    shut = λ s d k o. absurd (unseen-done (u s) o);
+    one = λ s t d o. absurd (unseen-done (u s) o);
+    apart = λ s t d e o. absurd (unseen-done (u s) o);
+    below = λ s d o. absurd (unseen-done (u s) o);
+    used = λ d l. absurd (omega arith);
+    stacked = record { placed = tt; listed = λ s j o. absurd (unseen-open (u s) o) };
+  };
+  fits = record { outside = λ s l. u s; numbers = omega (arith, unseen-few (G .size) (spot place)); walks = omega (arith, unseen-few (G .size) (spot place)) };
+}))
 
 -- at the end
 pub all-done : (G : Frame) (place : List Place) (c : ℕ) (nums : List ℕ) (ws : List Walk) → Going G place c nums ws → ws ≡ [] → ((s : ℕ) → s < G .size → spot place s ≡ Unseen → ⊥) → Searched G place c
 all-done G place c nums ws on e met = record {
-    few = omega (arith, on .fits .numbers);
-    each = λ s l. look s l (spot place s) refl;
-    used = λ d l. let v : (s : ℕ) × (spot place s ≡ Done d) = on .keeps .used d l in
-        (v .0, ⊎-elim (λ lt. lt) (λ ge. absurd (unseen-done (on .fits .outside (v .0) ge) (v .1))) (cases-lt (v .0) (G .size)), v .1);
-    same = λ s t d os ot. (on .keeps .one s t d os ot, on .keeps .one t s d ot os);
-    apart = on .keeps .apart }
+  few = omega (arith, on .fits .numbers);
+  each = λ s l. look s l (spot place s) refl;
+  used = λ d l. let v : (s : ℕ) × (spot place s ≡ Done d) = on .keeps .used d l in
+      (v .0, ⊎-elim (λ lt. lt) (λ ge. absurd (unseen-done (on .fits .outside (v .0) ge) (v .1))) (cases-lt (v .0) (G .size)), v .1);
+  same = λ s t d os ot. (on .keeps .one s t d os ot, on .keeps .one t s d ot os);
+  apart = on .keeps .apart;
+}
   where
     I : Inv (G .row) (spot place) nums [] c
     I = subst (λ x. Inv (G .row) (spot place) nums x c) e (on .keeps)
+
     look : (s : ℕ) → s < G .size → (p : Place) → spot place s ≡ p → (d : ℕ) × (spot place s ≡ Done d) × (d < c)
     look s l Unseen q = absurd (met s l q)
     look s l (Open j) q = absurd (I .back s j q)

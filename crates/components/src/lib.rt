@@ -47,7 +47,12 @@ pub enum Refused {
 
 /// Writes the number of each state's component to the front of `part`. The components are numbered by first member:
 /// state 0 has number 0, and each later state in no earlier component opens the next.
-pub fn find_components<M: Model>(model: &M, walks: &mut [Walk], states: &mut [u16], part: &mut [u8; 128]) -> Result<Found, Refused>
+pub fn find_components<M: Model>(
+    model: &M,
+    walks: &mut [Walk],
+    states: &mut [u16],
+    part: &mut [u8; 128],
+) -> Result<Found, Refused>
     ensures { λ r. ⌜ Answers (M·Model .means (now (model .entry))) (now (walks .entry)) (now (walks .exit)) (now (states .entry)) (now (states .exit)) (now (part .entry)) (now (part .exit)) r ⌝ }
 {
     let size = model.size();

@@ -16,7 +16,13 @@ use models::Model;
 
 impl Marks {
     // Walks from every state that is not met yet.
-    pub fn walk_all<M: Model>(&mut self, model: &M, walk: &mut Stack<'_, Walk>, numbers: &mut Stack<'_, u16>, size: u16)
+    pub fn walk_all<M: Model>(
+        &mut self,
+        model: &M,
+        walk: &mut Stack<'_, Walk>,
+        numbers: &mut Stack<'_, u16>,
+        size: u16,
+    )
         requires size { ⌜ (size ≡ inner (M·Model .means (now model)) .size) × (size ≤ 128) ⌝ }
         requires rooms { ⌜ (size ≤ room (now numbers)) × (size ≤ room (now walk)) ⌝ }
         requires going { ⌜ Going (inner (M·Model .means (now model))) (now self .place) (now self .count) (held (now numbers)) (held (now walk)) ⌝ }
@@ -31,7 +37,13 @@ impl Marks {
     }
 
     // Walks from `root` until the walk is over.
-    fn explore<M: Model>(&mut self, model: &M, walk: &mut Stack<'_, Walk>, numbers: &mut Stack<'_, u16>, root: u16)
+    fn explore<M: Model>(
+        &mut self,
+        model: &M,
+        walk: &mut Stack<'_, Walk>,
+        numbers: &mut Stack<'_, u16>,
+        root: u16,
+    )
         requires size { ⌜ inner (M·Model .means (now model)) .size ≤ 128 ⌝ }
         requires rooms { ⌜ (inner (M·Model .means (now model)) .size ≤ room (now numbers)) × (inner (M·Model .means (now model)) .size ≤ room (now walk)) ⌝ }
         requires going { ⌜ Going (inner (M·Model .means (now model))) (now self .place) (now self .count) (held (now numbers)) (held (now walk)) ⌝ }
@@ -49,7 +61,13 @@ impl Marks {
     }
 
     // One step of the walk, from its top.
-    fn step<M: Model>(&mut self, model: &M, walk: &mut Stack<'_, Walk>, numbers: &mut Stack<'_, u16>, top: Walk)
+    fn step<M: Model>(
+        &mut self,
+        model: &M,
+        walk: &mut Stack<'_, Walk>,
+        numbers: &mut Stack<'_, u16>,
+        top: Walk,
+    )
         requires size { ⌜ inner (M·Model .means (now model)) .size ≤ 128 ⌝ }
         requires rooms { ⌜ (inner (M·Model .means (now model)) .size ≤ room (now numbers)) × (inner (M·Model .means (now model)) .size ≤ room (now walk)) ⌝ }
         requires going { ⌜ Going (inner (M·Model .means (now model))) (now self .place) (now self .count) (held (now numbers)) (held (now walk)) ⌝ }

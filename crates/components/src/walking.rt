@@ -37,7 +37,13 @@ impl Marks {
     }
 
     // Looks at the next move of the walk's top, which goes to `t`.
-    pub fn follow(&mut self, walk: &mut Stack<'_, Walk>, numbers: &mut Stack<'_, u16>, top: Walk, t: u16)
+    pub fn follow(
+        &mut self,
+        walk: &mut Stack<'_, Walk>,
+        numbers: &mut Stack<'_, u16>,
+        top: Walk,
+        t: u16,
+    )
         requires state { ⌜ t < 128 ⌝ }
         requires short { ⌜ top .next < 4096 ⌝ }
         requires space { ⌜ (spot (now self .place) t ≡ Unseen → (length (held (now numbers)) < 128) × (length (held (now numbers)) < room (now numbers)) × (length (held (now walk)) < room (now walk))) ⌝ }

@@ -31,8 +31,8 @@ small-numbers labels rows valid =
     let few = valid .sized .1 in (
       omega arith,
       all-append (λ m. m < 2 ^ 64) (bits-of labels) (joined counted rows)
-        (all-map (λ m. m < 2 ^ 64) (λ (x : Facts). x .bits) labels (valid .wide))
-        (small-rows (length labels) few rows (valid .rising)),
+          (all-map (λ m. m < 2 ^ 64) (λ (x : Facts). x .bits) labels (valid .wide))
+          (small-rows (length labels) few rows (valid .rising)),
     )
 
 -- the targets are among the numbers

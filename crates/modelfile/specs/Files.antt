@@ -63,6 +63,6 @@ offsets-of rows = offsets-from 0 rows
 -- the model that a file denotes: state s has label s and row s
 abbrev pub model-of : List Facts → List (List ℕ) → Kripke
 model-of labels rows = record {
-  frame = record { size = length labels; row = λ s. getD rows s []; };
+  frame = record { size = length labels; row = λ s. getD rows s [] };
   labels = listed-labels 64 fact-words labels;
 }

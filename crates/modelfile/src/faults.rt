@@ -107,7 +107,12 @@ impl FaultNumbers {
     pub fn write(self, buffer: &mut [u8]) -> Result<usize, TextFault>
         ensures { λ r. ⌜ TellsFault self (now (buffer .entry)) (now (buffer .exit)) r ⌝ }
     {
-        let numbers = [self.layer as u64, self.cause as u64, self.place as u64, self.number as u64];
+        let numbers = [
+            self.layer as u64,
+            self.cause as u64,
+            self.place as u64,
+            self.number as u64,
+        ];
         match write_line(b"fault", &numbers, buffer, 0) {
             Some(end) => Ok(end),
             None => Err(TextFault::BufferShort),

@@ -2,4 +2,6 @@
 pub mod faults;
 mod fill;
 pub mod reading;
-pub mod scan;
+mod scan;
+
+pub use scan::LONGEST;

@@ -7,4 +7,5 @@ pub mod Rows
 pub mod Reducing
 pub mod Claims
 pub mod Found
+pub mod Files
 pub mod Cases

@@ -24,6 +24,7 @@ with-self-moves-cyclic-requires g c κs =
 pub returns : need.returns
 returns g c =
     let M = g .M·Model .means (c .args .model .now) in
-    let n = c .size-size .ensures in
-    ((omega (arith, n), omega (arith, n), omega (arith, n)),
-     finds M (g .M·Model .formed (c .args .model .now)) _ _ (c .search-all-marks .ensures) _ n _ _ _ _ _ (c .number-sizes .ensures) (c .with-self-moves-cyclic .ensures))
+    let n = c .size-size .ensures in (
+      (omega (arith, n), omega (arith, n), omega (arith, n)),
+      finds M (g .M·Model .formed (c .args .model .now)) _ _ (c .search-all-marks .ensures) _ n _ _ _ _ _ (c .number-sizes .ensures) (c .with-self-moves-cyclic .ensures),
+    )

@@ -27,8 +27,7 @@ returns c =
     let all = c .in-Continue--wide .ensures tt in
     let wide = length-append (code (length (c .args .numbers .now))) (codes (c .args .numbers .now)) in
     let inside : c .args .at ≤ length (c .args .buffer .now) = omega arith in
-    let end : c .put-codes .result ≡ c .args .at + (length (code (length (c .args .numbers .now))) + length (codes (c .args .numbers .now))) = omega arith in
-    (
+    let end : c .put-codes .result ≡ c .args .at + (length (code (length (c .args .numbers .now))) + length (codes (c .args .numbers .now))) = omega arith in (
       omega arith,
       omega (arith, all .0, all .1),
       placed-then (c .args .buffer .now) _ _ (code (length (c .args .numbers .now))) (codes (c .args .numbers .now)) _ _ inside (c .put-from .ensures .after) (c .put-from .ensures .end) (c .put-codes .ensures .after),

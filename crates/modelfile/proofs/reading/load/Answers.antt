@@ -1,6 +1,7 @@
 use mathlib.Core.Path.{_≡_, sym, _∙_}
 use Prim.Native.Nat.{ℕ}
 use native.Mathlib.Omega.{arith}
+use Rattle.modelfile.proofs.Meaning.{fronts-mean}
 use Rattle.modelfile.proofs.Denoting.{labels-stand, rows-fit, rows-stand}
 use Rattle.modelfile.proofs.reading.load.Needs as need
 
@@ -22,4 +23,5 @@ returns c =
       filled = record { labels-are = labels .1; offsets-are = rows .0; targets-are = rows .1 };
       states = plan .states;
       targets = plan .targets;
+      means = fronts-mean _ _ (plan .labels) (plan .rows) _ (plan .denotes .valid) (record { labels-are = labels .1; offsets-are = rows .0; targets-are = rows .1 }) (plan .states) (plan .targets);
     }

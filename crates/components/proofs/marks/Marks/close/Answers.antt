@@ -17,11 +17,12 @@ mark-done-requires c κs = omega (arith, top-within _ _ _ _ _ _ (c .in-Some .ens
 pub loop-numbers-again-in-Some : need.loop-numbers-again-in-Some
 loop-numbers-again-in-Some c =
     let inv = c .loop-numbers .inv in
-    let above = ltb-true _ _ (sym (c .is-above .ensures) ∙ c .loop-numbers-test .taken) in
-    (took _ _ _ _ _ _ _ _ (c .in-Some .ensures tt .held) (c .mark-done .ensures .place) (inv .1) (inv .0),
-     c .mark-done .ensures .count ∙ inv .1,
-     omega (arith, above, ap length (c .in-Some .ensures tt .held)),
-     c .pop .ensures .room ∙ inv .3)
+    let above = ltb-true _ _ (sym (c .is-above .ensures) ∙ c .loop-numbers-test .taken) in (
+      took _ _ _ _ _ _ _ _ (c .in-Some .ensures tt .held) (c .mark-done .ensures .place) (inv .1) (inv .0),
+      c .mark-done .ensures .count ∙ inv .1,
+      omega (arith, above, ap length (c .in-Some .ensures tt .held)),
+      c .pop .ensures .room ∙ inv .3,
+    )
 
 pub returns : need.returns
 returns c =

@@ -22,12 +22,13 @@ enter-requires g c κs =
 pub loop-top-holds : need.loop-top-holds
 loop-top-holds g c =
     let G = inner (g .M·Model .means (c .args .model .now)) in
-    let wide : G .size ≤ length (c .args .self .now .place) = omega (arith, c .pre .size, c .args .self .now .sized) in
-    (begun G _ _ (c .args .root) wide (c .pre .root .0) (c .pre .root .1) _ _ (c .pre .over) (c .pre .going) _ _ _ _
-       (c .enter .ensures .place) (c .enter .ensures .count) (c .enter .ensures .numbers) (c .enter .ensures .walk),
-     (λ s u. u),
-     refl,
-     refl)
+    let wide : G .size ≤ length (c .args .self .now .place) = omega (arith, c .pre .size, c .args .self .now .sized) in (
+      begun G _ _ (c .args .root) wide (c .pre .root .0) (c .pre .root .1) _ _ (c .pre .over) (c .pre .going) _ _ _ _
+          (c .enter .ensures .place) (c .enter .ensures .count) (c .enter .ensures .numbers) (c .enter .ensures .walk),
+      (λ s u. u),
+      refl,
+      refl,
+    )
 
 pub returns : need.returns
 returns g c =

@@ -57,8 +57,8 @@ returns-in-None g c =
       next = ⊎-elim
           (λ e. shut (inner M) _ _ _ _ w (c .pre .top) (c .pre .going) done e _ _ _ _ (c .leave .ensures .shut e))
           (λ ne.
-              let h = c .leave .ensures .passed ne in
-              passed (inner M) _ _ _ _ w (c .pre .top) (c .pre .going) done ne _ _ _ _ (ap (λ m. m .place) (h .0)) (ap (λ m. m .count) (h .0)) (h .1) (h .2))
+          let h = c .leave .ensures .passed ne in
+          passed (inner M) _ _ _ _ w (c .pre .top) (c .pre .going) done ne _ _ _ _ (ap (λ m. m .place) (h .0)) (ap (λ m. m .count) (h .0)) (h .1) (h .2))
           (cases-eq (w .low) (w .at));
       rooms = c .leave .ensures .rooms;
     }

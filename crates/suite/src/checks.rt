@@ -1,19 +1,19 @@
 //! Examples of checks and of refusals.
-use crate::Numbers;
-use crate::NumbersDebug;
-use crate::NumbersPartialEq;
-use crate::check as mark_states;
-use crate::steps::Malformed;
-use crate::steps::Refused;
-use crate::steps::RefusedDebug;
-use crate::steps::RefusedPartialEq;
-use crate::steps::Step;
-use crate::steps::Step::Globally;
-use crate::steps::Step::Not;
-use crate::steps::Step::Or;
-use crate::steps::Step::True;
-use crate::steps::Step::Until;
-use crate::steps::Step::Word;
+use checker::Numbers;
+use checker::NumbersDebug;
+use checker::NumbersPartialEq;
+use checker::check as mark_states;
+use checker::steps::Malformed;
+use checker::steps::Refused;
+use checker::steps::RefusedDebug;
+use checker::steps::RefusedPartialEq;
+use checker::steps::Step;
+use checker::steps::Step::Globally;
+use checker::steps::Step::Not;
+use checker::steps::Step::Or;
+use checker::steps::Step::True;
+use checker::steps::Step::Until;
+use checker::steps::Step::Word;
 use models::facts::Facts;
 use models::facts::FactsLabel;
 use models::listed::Listed;
@@ -185,9 +185,15 @@ fn limits() -> Result<(), Fail> {
     check_eq(marks, others)?;
     // the word is reached from everywhere, and no path is without it
     others[0] = 1;
-    check_eq(mark_states(&ring, &[True, Word(0), Until], &mut marks), Ok(()))?;
+    check_eq(
+        mark_states(&ring, &[True, Word(0), Until], &mut marks),
+        Ok(()),
+    )?;
     check_eq(marks, others)?;
-    check_eq(mark_states(&ring, &[Word(0), Not, Globally, Not], &mut marks), Ok(()))?;
+    check_eq(
+        mark_states(&ring, &[Word(0), Not, Globally, Not], &mut marks),
+        Ok(()),
+    )?;
     check_eq(marks, others)
 }
 
@@ -218,7 +224,10 @@ fn duals() -> Result<(), Fail> {
         check_eq(marks_of(&chain, &some), marks_of(&chain, &none))?;
         check_eq(marks_of(&swing, &some), marks_of(&swing, &none))?;
     }
-    check_eq(marks_of(&chain, &[Word(0), Word(1), Until]), Ok([1, 1, 0, 1, 1, 0]))?;
+    check_eq(
+        marks_of(&chain, &[Word(0), Word(1), Until]),
+        Ok([1, 1, 0, 1, 1, 0]),
+    )?;
     check_eq(
         marks_of(&chain, &[Word(0), Word(1), Or, Word(2), Until]),
         Ok([1, 1, 1, 0, 0, 0]),

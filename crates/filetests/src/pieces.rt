@@ -1,20 +1,26 @@
-//! Examples of numbers and of text.
-use crate::numbers::NumberFault;
-use crate::numbers::NumberFaultDebug;
-use crate::numbers::NumberFaultPartialEq;
-use crate::numbers::number_at;
-use crate::numbers::width;
-use crate::numbers::write_counted;
-use crate::numbers::write_number;
-use crate::text::write_line;
+//! Numbers and text in a buffer.
+use bytes::numbers::NumberFault;
+use bytes::numbers::NumberFaultDebug;
+use bytes::numbers::NumberFaultPartialEq;
+use bytes::numbers::number_at;
+use bytes::numbers::width;
+use bytes::numbers::write_counted;
+use bytes::numbers::write_number;
+use bytes::text::write_line;
 use std::test::*;
 
 #[test]
 fn numbers_read() -> Result<(), Fail> {
     check_eq(number_at(&[0xAC, 0x02], 0), Ok((300, 2)))?;
     check_eq(number_at(&[0x05, 0x7F, 0x00], 1), Ok((127, 2)))?;
-    check_eq(number_at(&[0x80, 0x00], 0), Err(NumberFault::NotFewestAt(0)))?;
-    check_eq(number_at(&[0x01, 0xAC, 0x80], 1), Err(NumberFault::CutShortAt(3)))?;
+    check_eq(
+        number_at(&[0x80, 0x00], 0),
+        Err(NumberFault::NotFewestAt(0)),
+    )?;
+    check_eq(
+        number_at(&[0x01, 0xAC, 0x80], 1),
+        Err(NumberFault::CutShortAt(3)),
+    )?;
     check_eq(number_at(&[0x01], 7), Err(NumberFault::CutShortAt(1)))?;
     // 2^64 - 1 is the largest; 2^64 is too large, and one too large already can still be cut short
     let mut file = [0xFF; 12];
