@@ -3,7 +3,9 @@ use mathlib.Core.Bool.{cond, true, false}
 use mathlib.Core.List.{List, [], _∷_, _++_}
 use mathlib.Core.Logic.{_⊎_, inl, inr}
 use mathlib.Core.Path.{_≡_, refl, sym, ap, _∙_}
-use Prim.Native.Nat.{ℕ, zero, suc, _+_, _-_, _*_, _/_, _%_, _<_, _≤_}
+use Prim.Native.Nat.{ℕ, zero, suc, _+_, _-_, _*_, _/_, _%_, _^_, _<_, _≤_}
+use native.Mathlib.Nat.{pow-suc}
+use native.Mathlib.Numerals.{add-one}
 use native.Mathlib.Omega.{arith}
 use lib.Dec.{ltb}
 use lib.ListN.{length}
@@ -65,6 +67,19 @@ length-code =
     by-bytes (λ n. length (code n) ≤ n + 1)
     (λ n a. rw (code-last n a) (omega arith))
     (λ n a ih. rw (code-more n a) (omega arith))
+
+code-within : (k n : ℕ) → n < 128 ^ (k + 1) → length (code n) ≤ k + 1
+code-within zero n h = omega (arith, width-last n h)
+code-within (suc k) n h =
+    let power : 128 ^ (suc k + 1) ≡ 128 ^ (k + 1) * 128 = ap (λ j. 128 ^ j) (add-one (suc k)) ∙ (pow-suc 128 (suc k) ∙ ap (λ j. 128 ^ j * 128) (sym (add-one k))) in
+    elim (cases-lt n 128) [
+      | inl l ↦ omega (arith, width-last n l)
+      | inr l ↦ omega (arith, width-more n l, code-within k (n / 128) (omega arith))
+    ]
+
+-- ten bytes hold each number below 2^64
+pub code-few : (n : ℕ) → n < 2 ^ 64 → length (code n) ≤ 10
+code-few n h = code-within 9 n (omega arith)
 
 coded-on : (b : ℕ) (bs : List ℕ) → 128 ≤ b → Coded bs → Coded (b ∷ bs)
 coded-on b [] h e = absurd e

@@ -179,19 +179,29 @@ fn put_codes(numbers: &[u16], buffer: &mut [u8], from: usize) -> usize
     at
 }
 
+/// How many bytes it takes to write how many numbers there are and then each of them, where that is at most `most`.
+pub fn counted_width(numbers: &[u16], most: usize) -> Option<usize>
+    ensures { λ r. ⌜ BySome r (most < length (codes (counted (now (numbers .entry))))) (λ wide. (wide ≡ length (codes (counted (now (numbers .entry))))) × (wide ≤ most)) ⌝ }
+{
+    let count = width(numbers.len() as u64);
+    if count > most {
+        return None;
+    }
+    let others = codes_width(numbers, most - count)?;
+    Some(count + others)
+}
+
 /// Writes how many numbers there are and then each of them, from `at` on, and answers where the last ends;
 /// writes nothing where they have no room.
 pub fn write_counted(numbers: &[u16], buffer: &mut [u8], at: usize) -> Option<usize>
     ensures { λ r. ⌜ Writes (codes (counted (now (numbers .entry)))) (now (buffer .entry)) at (now (buffer .exit)) r ⌝ }
 {
-    let count = numbers.len() as u64;
-    if !fits(buffer.len(), at, width(count)) {
+    if at > buffer.len() {
         return None;
     }
-    let first = at + width(count);
-    let room = buffer.len() - first;
-    let _wide = codes_width(numbers, room)?;
-    let from = put(count, buffer, at);
+    let room = buffer.len() - at;
+    let _wide = counted_width(numbers, room)?;
+    let from = put(numbers.len() as u64, buffer, at);
     Some(put_codes(numbers, buffer, from))
 }
 

@@ -8,7 +8,7 @@ use lib.ListN.{length, take, drop, getD, set}
 use Rattle.std.specs.Joined.{joined}
 use Rattle.std.specs.shelf.Lists.{All}
 use Rattle.std.proofs.shelf.Elements.{all-append, all-getD}
-use Rattle.std.proofs.shelf.Lists.{append-assoc, append-nil, drop-all, drop-more, drop-set-lt, joined-more, length-append, length-set, length-take-le, set-set, take-all, take-at, take-more, take-take}
+use Rattle.std.proofs.shelf.Lists.{append-assoc, append-nil, drop-all, drop-more, drop-set-lt, length-append, length-set, length-take-le, set-set, take-all, take-at, take-more, take-take}
 use Rattle.bytes.specs.Numbers.{code, codes, counted}
 use Rattle.bytes.specs.Pieces.{placed}
 use Rattle.bytes.specs.Reading.{Stands}
@@ -17,6 +17,7 @@ use Rattle.bytes.proofs.Joins.{joined-append, joined-within}
 use Rattle.bytes.proofs.Places.{placed-none, placed-one, placed-set, placed-then}
 use Rattle.modelfile.specs.Files.{targets-of, offsets-from, offsets-of}
 use Rattle.modelfile.specs.Fills.{Sequence, RowFits, RowsFit}
+use Rattle.modelfile.proofs.Walking.{targets-push}
 
 all-left : (P : ℕ → Type 0) (xs ys : List ℕ) → All P (xs ++ ys) → All P xs
 all-left P [] ys h = tt
@@ -108,9 +109,6 @@ offsets-push from (r ∷ rows) row =
 pub length-offsets : (from : ℕ) (rows : List (List ℕ)) → length (offsets-from from rows) ≡ length rows + 1
 length-offsets from [] = refl
 length-offsets from (r ∷ rows) = omega (arith, length-offsets (from + length r) rows)
-
-pub targets-push : (rows : List (List ℕ)) (row : List ℕ) → targets-of rows ++ row ≡ targets-of (rows ++ (row ∷ []))
-targets-push rows row = joined-more (λ (r : List ℕ). r) [] rows row
 
 -- what is written over the first entry hides what stood there
 placed-over : (xs ys : List ℕ) (b y : ℕ) → placed (set xs 0 b) 0 (y ∷ ys) ≡ placed xs 0 (y ∷ ys)

@@ -165,7 +165,7 @@ row-back t labels rows ts d e ranged right =
     let held = right .held in
     let few = right .few in
     let long = length-push rows ts in
-    let flat : length (targets-of (rows ++ (ts ∷ []))) ≡ length (targets-of rows) + length ts = ap length (sym (targets-push t [] rows ts)) ∙ length-append (targets-of rows) ts in
+    let flat : length (targets-of (rows ++ (ts ∷ []))) ≡ length (targets-of rows) + length ts = ap length (sym (targets-push rows ts)) ∙ length-append (targets-of rows) ts in
     record {
       complete = record { labelled = right .labelled; few = omega arith; rising = each .0; held = omega arith };
       next = omega arith;

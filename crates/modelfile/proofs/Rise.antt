@@ -4,10 +4,10 @@ use mathlib.Core.Logic.{inl, inr}
 use mathlib.Core.Path.{_≡_, refl, sym, ap, subst, _∙_}
 use Prim.Native.Nat.{ℕ, zero, suc, _+_, _<_, _≤_}
 use native.Mathlib.Omega.{arith}
-use lib.ListN.{length, getD}
+use lib.ListN.{length, take, getD}
 use Rattle.std.specs.shelf.Lists.{All}
 use Rattle.std.proofs.shelf.Elements.{all-getD}
-use Rattle.std.proofs.shelf.Lists.{getD-append-left, getD-push, length-push}
+use Rattle.std.proofs.shelf.Lists.{getD-append-left, getD-push, getD-take, length-push, length-take}
 use Rattle.std.proofs.shelf.Tests.{cases-lt}
 use Rattle.kripke.specs.Models.{nowhere}
 use Rattle.kripke.specs.Reduced.{Rising}
@@ -20,7 +20,15 @@ rising-none k h = absurd (omega arith)
 pub rising-one : (t : ℕ) → Rising (t ∷ [])
 rising-one t k h = absurd (omega arith)
 
--- the front of a row that rises does
+-- any front of a row that rises does
+pub rising-take : (n : ℕ) (row : List ℕ) → Rising row → Rising (take n row)
+rising-take n row r k h =
+    let long = length-take n row in
+    let step = r k (omega arith) in
+    let first = getD-take n row k nowhere (omega arith) in
+    let second = getD-take n row (suc k) nowhere (omega arith) in
+    omega arith
+
 pub rising-front : (ts : List ℕ) (t : ℕ) → Rising (ts ++ (t ∷ [])) → Rising ts
 rising-front ts t r k h =
     let long = length-push ts t in

@@ -26,8 +26,12 @@ use Rattle.modelfile.proofs.Rise.{lowest-more, lowest-none, rising-none, risin
 pub codes-push : (ns : List ℕ) (n : ℕ) → codes ns ++ code n ≡ codes (ns ++ (n ∷ []))
 codes-push ns n = joined-more code [] ns n
 
-pub fact : ℕ → Facts
-fact n = record { bits = n }
+-- one row more, as numbers and as targets
+pub numbers-push : (labels : List Facts) (rows : List (List ℕ)) (row : List ℕ) → numbers labels rows ++ counted row ≡ numbers labels (rows ++ (row ∷ []))
+numbers-push labels rows row = joined-more counted (length labels ∷ bits-of labels) rows row
+
+pub targets-push : (rows : List (List ℕ)) (row : List ℕ) → targets-of rows ++ row ≡ targets-of (rows ++ (row ∷ []))
+targets-push rows row = joined-more (λ (r : List ℕ). r) [] rows row
 
 -- the next number stands behind those before it
 module _ (t : Room) (file : List ℕ) where
@@ -155,12 +159,6 @@ module _ (t : Room) (file : List ℕ) where
             (append-assoc (numbers (read .labels) (read .rows)) (r .degree ∷ read .targets) (target ∷ [])
             ∙ ap (λ d. numbers (read .labels) (read .rows) ++ (d ∷ (read .targets ++ (target ∷ [])))) (sym degree)));
       }
-
-  numbers-push : (labels : List Facts) (rows : List (List ℕ)) (row : List ℕ) → numbers labels rows ++ counted row ≡ numbers labels (rows ++ (row ∷ []))
-  numbers-push labels rows row = joined-more counted (length labels ∷ bits-of labels) rows row
-
-  pub targets-push : (rows : List (List ℕ)) (row : List ℕ) → targets-of rows ++ row ≡ targets-of (rows ++ (row ∷ []))
-  targets-push rows row = joined-more (λ (r : List ℕ). r) [] rows row
 
   -- a whole row is read
   pub rows-more : (r : OpenRow) (w : Walk) → TargetsRead t file r → r .given ≡ r .degree →
