@@ -1,0 +1,6 @@
+pub mod Steps
+pub mod Reading
+pub mod Tables
+pub mod Marks
+pub mod Refusals
+pub mod Claims
