@@ -1,4 +1,4 @@
--- Steps and formulas, by going through the steps.
+-- Steps denote one formula at most, and those that are readable are just those that denote one.
 use mathlib.Core.Path.{_≡_, refl, sym, _∙_, ap, subst}
 use mathlib.Core.List.{List, [], _∷_, _++_}
 use mathlib.Core.Logic.{_↔_}
@@ -6,13 +6,15 @@ use Prim.Native.Nat.{ℕ, zero, suc, _+_, _-_, _<_, _≤_}
 use native.Mathlib.Omega.{arith}
 use native.Mathlib.Numerals.{add-one}
 use lib.ListN.{length, getD, take}
-use Rattle.std.proofs.shelf.Lists.{append-assoc, append-nil}
+use Rattle.std.proofs.shelf.Lists.{append-assoc, append-nil, take-all}
 use Rattle.kripke.specs.Formulas.{Formula, top, word, neg, or, until, globally}
 use Rattle.checker.specs.declared.steps.Step.{Step}
 use Rattle.checker.specs.declared.steps.Step.the-variants.{True, Word, Not, Or, Until, Globally}
 use Rattle.checker.specs.Steps.{postfix, Denotes, Utters}
-use Rattle.checker.specs.Reading.{Known, Fine, FineBelow, Counted, Readable, takes, left-by, step-at}
+use Rattle.checker.specs.Reading.{Known, Fine, FineBelow, Counted, Readable, takes, left-by, operands, step-at}
 use Rattle.checker.specs.Claims.{One-formula, Readable-formulas}
+use Rattle.checker.proofs.Counts.{operands-more, operands-all}
+use Rattle.checker.proofs.Spelling.{made, spelled, spelled-more, put, put-below}
 
 -- the operands after a step, the last one first
 after : Step → List Formula → List Formula
@@ -33,22 +35,33 @@ run : List Formula → List Step → List Formula
 run fs [] = fs
 run fs (x ∷ xs) = run (after x fs) xs
 
-run-postfix : (f : Formula) (fs : List Formula) (xs : List Step) → run fs (postfix f ++ xs) ≡ run (f ∷ fs) xs
+-- the steps ys push f
+abbrev Pushes : List Step → Formula → Type 0
+Pushes ys f = (fs : List Formula) (xs : List Step) → run fs (ys ++ xs) ≡ run (f ∷ fs) xs
+
+pushes-one : (ys : List Step) (x : Step) (f h : Formula) → Pushes ys f → ((fs : List Formula) → after x (f ∷ fs) ≡ h ∷ fs) → Pushes (ys ++ (x ∷ [])) h
+unfolding run
+pushes-one ys x f h p q fs xs = ap (run fs) (append-assoc ys (x ∷ []) xs) ∙ p fs (x ∷ xs) ∙ ap (λ gs. run gs xs) (q fs)
+
+pushes-two : (ys zs : List Step) (x : Step) (f g h : Formula) → Pushes ys f → Pushes zs g → ((fs : List Formula) → after x (g ∷ f ∷ fs) ≡ h ∷ fs) →
+    Pushes (ys ++ (zs ++ (x ∷ []))) h
+unfolding run
+pushes-two ys zs x f g h p r q fs xs =
+    ap (run fs) (append-assoc ys (zs ++ (x ∷ [])) xs) ∙ p fs ((zs ++ (x ∷ [])) ++ xs) ∙
+    ap (run (f ∷ fs)) (append-assoc zs (x ∷ []) xs) ∙ r (f ∷ fs) (x ∷ xs) ∙ ap (λ gs. run gs xs) (q fs)
+
+pushes : (f : Formula) → Pushes (postfix f) f
 unfolding run after
-run-postfix top fs xs = refl
-run-postfix (word a) fs xs = refl
-run-postfix (neg f) fs xs = ap (run fs) (append-assoc (postfix f) (Not ∷ []) xs) ∙ run-postfix f fs (Not ∷ xs)
-run-postfix (globally f) fs xs = ap (run fs) (append-assoc (postfix f) (Globally ∷ []) xs) ∙ run-postfix f fs (Globally ∷ xs)
-run-postfix (or f g) fs xs =
-    ap (run fs) (append-assoc (postfix f) (postfix g ++ (Or ∷ [])) xs) ∙ run-postfix f fs ((postfix g ++ (Or ∷ [])) ++ xs) ∙
-    ap (run (f ∷ fs)) (append-assoc (postfix g) (Or ∷ []) xs) ∙ run-postfix g (f ∷ fs) (Or ∷ xs)
-run-postfix (until f g) fs xs =
-    ap (run fs) (append-assoc (postfix f) (postfix g ++ (Until ∷ [])) xs) ∙ run-postfix f fs ((postfix g ++ (Until ∷ [])) ++ xs) ∙
-    ap (run (f ∷ fs)) (append-assoc (postfix g) (Until ∷ []) xs) ∙ run-postfix g (f ∷ fs) (Until ∷ xs)
+pushes top = λ fs xs. refl
+pushes (word a) = λ fs xs. refl
+pushes (neg f) = pushes-one (postfix f) Not f (neg f) (pushes f) (λ fs. refl)
+pushes (or f g) = pushes-two (postfix f) (postfix g) Or f g (or f g) (pushes f) (pushes g) (λ fs. refl)
+pushes (until f g) = pushes-two (postfix f) (postfix g) Until f g (until f g) (pushes f) (pushes g) (λ fs. refl)
+pushes (globally f) = pushes-one (postfix f) Globally f (globally f) (pushes f) (λ fs. refl)
 
 run-whole : (f : Formula) → run [] (postfix f) ≡ f ∷ []
 unfolding run
-run-whole f = ap (run []) (sym (append-nil (postfix f))) ∙ run-postfix f [] []
+run-whole f = ap (run []) (sym (append-nil (postfix f))) ∙ pushes f [] []
 
 pub one-formula : One-formula
 one-formula steps f g df dg =
@@ -57,126 +70,93 @@ one-formula steps f g df dg =
     let r = ap (run []) (sym df ∙ dg) in
     cc
 
--- each step has its word and its operands, where h stand before the first
-abbrev Fits : ℕ → ℕ → List Step → Type 0
-Fits count h [] = Unit {0}
-Fits count h (x ∷ xs) = Known count x × (takes x ≤ h) × Fits count (h - takes x + 1) xs
-
 module _ (count : ℕ) where
-  fits-at : (h : ℕ) (xs : List Step) (i : ℕ) → i < length xs → Fits count h xs → Known count (getD xs i True) × (takes (getD xs i True) ≤ left-by h (take i xs))
-  fits-at h [] i l p = absurd (omega arith)
-  fits-at h (x ∷ xs) zero l p = (p .0, p .1)
-  fits-at h (x ∷ xs) (suc i) l p = fits-at (h - takes x + 1) xs i (omega arith) (p .2)
+  -- each step has its word and its operands, where h stand before the first, and k are left
+  abbrev Runs : ℕ → List Step → ℕ → Type 0
+  Runs h [] k = h ≡ k
+  Runs h (x ∷ xs) k = Known count x × (takes x ≤ h) × Runs (h - takes x + 1) xs k
 
-  at-fits : (h : ℕ) (xs : List Step) → ((i : ℕ) → i < length xs → Known count (getD xs i True) × (takes (getD xs i True) ≤ left-by h (take i xs))) → Fits count h xs
-  at-fits h [] p = tt
-  at-fits h (x ∷ xs) p =
-      let q = p 0 (omega arith) in
-      (q .0, q .1, at-fits (h - takes x + 1) xs (λ i l. p (suc i) (omega arith)))
+  runs-fine : (h : ℕ) (xs : List Step) (k i : ℕ) → i < length xs → Runs h xs k → Known count (getD xs i True) × (takes (getD xs i True) ≤ left-by h (take i xs))
+  runs-fine h [] k i l p = absurd (omega arith)
+  runs-fine h (x ∷ xs) k zero l p = (p .0, p .1)
+  runs-fine h (x ∷ xs) k (suc i) l p = runs-fine (h - takes x + 1) xs k i (omega arith) (p .2)
 
-  fits-cast : (h k : ℕ) (xs : List Step) → h ≡ k → Fits count h xs → Fits count k xs
-  fits-cast h k xs e p = subst (λ (n : ℕ). Fits count n xs) e p
+  runs-left : (h : ℕ) (xs : List Step) (k : ℕ) → Runs h xs k → left-by h xs ≡ k
+  runs-left h [] k p = p
+  runs-left h (x ∷ xs) k p = runs-left (h - takes x + 1) xs k (p .2)
 
-  -- a formula's steps add one operand
-  fits-postfix : (f : Formula) → Utters count f → (h : ℕ) (xs : List Step) → Fits count (h + 1) xs → Fits count h (postfix f ++ xs)
-  fits-postfix top u h xs p = (tt, omega arith, fits-cast (h + 1) (h - 0 + 1) xs (omega arith) p)
-  fits-postfix (word a) u h xs p = (u, omega arith, fits-cast (h + 1) (h - 0 + 1) xs (omega arith) p)
-  fits-postfix (neg f) u h xs p =
-      subst (λ (ys : List Step). Fits count h ys) (sym (append-assoc (postfix f) (Not ∷ []) xs))
-      (fits-postfix f u h (Not ∷ xs) (tt, omega arith, fits-cast (h + 1) (h + 1 - 1 + 1) xs (omega arith) p))
-  fits-postfix (globally f) u h xs p =
-      subst (λ (ys : List Step). Fits count h ys) (sym (append-assoc (postfix f) (Globally ∷ []) xs))
-      (fits-postfix f u h (Globally ∷ xs) (tt, omega arith, fits-cast (h + 1) (h + 1 - 1 + 1) xs (omega arith) p))
-  fits-postfix (or f g) u h xs p =
-      subst (λ (ys : List Step). Fits count h ys) (sym (append-assoc (postfix f) (postfix g ++ (Or ∷ [])) xs))
-      (fits-postfix f (u .0) h ((postfix g ++ (Or ∷ [])) ++ xs)
-      (subst (λ (ys : List Step). Fits count (h + 1) ys) (sym (append-assoc (postfix g) (Or ∷ []) xs))
-      (fits-postfix g (u .1) (h + 1) (Or ∷ xs) (tt, omega arith, fits-cast (h + 1) (h + 1 + 1 - 2 + 1) xs (omega arith) p))))
-  fits-postfix (until f g) u h xs p =
-      subst (λ (ys : List Step). Fits count h ys) (sym (append-assoc (postfix f) (postfix g ++ (Until ∷ [])) xs))
-      (fits-postfix f (u .0) h ((postfix g ++ (Until ∷ [])) ++ xs)
-      (subst (λ (ys : List Step). Fits count (h + 1) ys) (sym (append-assoc (postfix g) (Until ∷ []) xs))
-      (fits-postfix g (u .1) (h + 1) (Until ∷ xs) (tt, omega arith, fits-cast (h + 1) (h + 1 + 1 - 2 + 1) xs (omega arith) p))))
+  -- the steps ys leave one operand more
+  abbrev Adds : List Step → Type 0
+  Adds ys = (h : ℕ) (xs : List Step) (k : ℕ) → Runs (h + 1) xs k → Runs h (ys ++ xs) k
 
-  -- some formulas with their words below the count, the last one first
-  abbrev Uttered : List Formula → Type 0
-  Uttered [] = Unit {0}
-  Uttered (f ∷ fs) = Utters count f × Uttered fs
+  runs-step : (x : Step) (h j : ℕ) (xs : List Step) (k : ℕ) → Known count x → takes x + j ≡ h → Runs (j + 1) xs k → Runs h (x ∷ xs) k
+  runs-step x h j xs k known e p = let same : j + 1 ≡ h - takes x + 1 = omega arith in (known, omega arith, subst (λ (n : ℕ). Runs n xs k) same p)
 
-spelled : List Formula → List Step
-spelled [] = []
-spelled (f ∷ fs) = spelled fs ++ postfix f
+  adds-none : (x : Step) → Known count x → takes x ≡ 0 → Adds (x ∷ [])
+  adds-none x known w h xs k p = runs-step x h h xs k known (omega arith) p
 
-left-postfix : (f : Formula) (h : ℕ) (xs : List Step) → left-by h (postfix f ++ xs) ≡ left-by (h + 1) xs
-left-postfix top h xs = ap (λ n. left-by n xs) (omega arith)
-left-postfix (word a) h xs = ap (λ n. left-by n xs) (omega arith)
-left-postfix (neg f) h xs =
-    ap (left-by h) (append-assoc (postfix f) (Not ∷ []) xs) ∙ left-postfix f h (Not ∷ xs) ∙ ap (λ n. left-by n xs) (omega arith)
-left-postfix (globally f) h xs =
-    ap (left-by h) (append-assoc (postfix f) (Globally ∷ []) xs) ∙ left-postfix f h (Globally ∷ xs) ∙ ap (λ n. left-by n xs) (omega arith)
-left-postfix (or f g) h xs =
-    ap (left-by h) (append-assoc (postfix f) (postfix g ++ (Or ∷ [])) xs) ∙ left-postfix f h ((postfix g ++ (Or ∷ [])) ++ xs) ∙
-    ap (left-by (h + 1)) (append-assoc (postfix g) (Or ∷ []) xs) ∙ left-postfix g (h + 1) (Or ∷ xs) ∙ ap (λ n. left-by n xs) (omega arith)
-left-postfix (until f g) h xs =
-    ap (left-by h) (append-assoc (postfix f) (postfix g ++ (Until ∷ [])) xs) ∙ left-postfix f h ((postfix g ++ (Until ∷ [])) ++ xs) ∙
-    ap (left-by (h + 1)) (append-assoc (postfix g) (Until ∷ []) xs) ∙ left-postfix g (h + 1) (Until ∷ xs) ∙ ap (λ n. left-by n xs) (omega arith)
+  adds-one : (ys : List Step) (x : Step) → Adds ys → Known count x → takes x ≡ 1 → Adds (ys ++ (x ∷ []))
+  adds-one ys x a known w h xs k p =
+      subst (λ (zs : List Step). Runs h zs k) (sym (append-assoc ys (x ∷ []) xs)) (a h (x ∷ xs) k (runs-step x (h + 1) h xs k known (omega arith) p))
 
--- the formulas that steps leave where they fit
-abbrev Rebuilt : ℕ → List Formula → List Step → Type 0
-Rebuilt count fs xs = (gs : List Formula) × (length gs ≡ left-by (length fs) xs) × (spelled fs ++ xs ≡ spelled gs) × Uttered count gs
+  adds-two : (ys zs : List Step) (x : Step) → Adds ys → Adds zs → Known count x → takes x ≡ 2 → Adds (ys ++ (zs ++ (x ∷ [])))
+  adds-two ys zs x a b known w h xs k p =
+      subst (λ (us : List Step). Runs h us k) (sym (append-assoc ys (zs ++ (x ∷ [])) xs))
+      (a h ((zs ++ (x ∷ [])) ++ xs) k
+      (subst (λ (us : List Step). Runs (h + 1) us k) (sym (append-assoc zs (x ∷ []) xs))
+      (b (h + 1) (x ∷ xs) k (runs-step x (h + 1 + 1) h xs k known (omega arith) p))))
 
-one-more : (count : ℕ) (fs gs : List Formula) (x : Step) (xs : List Step) →
-    spelled fs ++ (x ∷ []) ≡ spelled gs → length gs ≡ length fs - takes x + 1 → Rebuilt count gs xs → Rebuilt count fs (x ∷ xs)
-one-more count fs gs x xs e n r = (
-  r .0,
-  r .1 ∙ ap (λ k. left-by k xs) n,
-  sym (append-assoc (spelled fs) (x ∷ []) xs) ∙ ap (λ ys. ys ++ xs) e ∙ r .2,
-  r .3,
-)
+  adds : (f : Formula) → Utters count f → Adds (postfix f)
+  adds top u = adds-none True tt refl
+  adds (word a) u = adds-none (Word a) u refl
+  adds (neg f) u = adds-one (postfix f) Not (adds f u) tt refl
+  adds (or f g) u = adds-two (postfix f) (postfix g) Or (adds f (u .0)) (adds g (u .1)) tt refl
+  adds (until f g) u = adds-two (postfix f) (postfix g) Until (adds f (u .0)) (adds g (u .1)) tt refl
+  adds (globally f) u = adds-one (postfix f) Globally (adds f u) tt refl
 
-rebuild : (count : ℕ) (fs : List Formula) (xs : List Step) → Uttered count fs → Fits count (length fs) xs → Rebuilt count fs xs
-unfolding spelled
-rebuild count fs [] u p = (fs, refl, append-nil (spelled fs), u)
-rebuild count fs (True ∷ xs) u p =
-    one-more count fs (top ∷ fs) True xs refl (omega arith) (rebuild count (top ∷ fs) xs (tt, u) (fits-cast count _ _ xs (omega arith) (p .2)))
-rebuild count fs (Word a ∷ xs) u p =
-    one-more count fs (word a ∷ fs) (Word a) xs refl (omega arith) (rebuild count (word a ∷ fs) xs (p .0, u) (fits-cast count _ _ xs (omega arith) (p .2)))
-rebuild count [] (Not ∷ xs) u p = absurd (omega (arith, p .1))
-rebuild count (f ∷ fs) (Not ∷ xs) u p =
-    one-more count (f ∷ fs) (neg f ∷ fs) Not xs (append-assoc (spelled fs) (postfix f) (Not ∷ [])) (omega arith)
-    (rebuild count (neg f ∷ fs) xs u (fits-cast count _ _ xs (omega arith) (p .2)))
-rebuild count [] (Globally ∷ xs) u p = absurd (omega (arith, p .1))
-rebuild count (f ∷ fs) (Globally ∷ xs) u p =
-    one-more count (f ∷ fs) (globally f ∷ fs) Globally xs (append-assoc (spelled fs) (postfix f) (Globally ∷ [])) (omega arith)
-    (rebuild count (globally f ∷ fs) xs u (fits-cast count _ _ xs (omega arith) (p .2)))
-rebuild count [] (Or ∷ xs) u p = absurd (omega (arith, p .1))
-rebuild count (g ∷ []) (Or ∷ xs) u p = absurd (omega (arith, p .1))
-rebuild count (g ∷ f ∷ fs) (Or ∷ xs) u p =
-    one-more count (g ∷ f ∷ fs) (or f g ∷ fs) Or xs
-    (append-assoc (spelled fs ++ postfix f) (postfix g) (Or ∷ []) ∙ append-assoc (spelled fs) (postfix f) (postfix g ++ (Or ∷ []))) (omega arith)
-    (rebuild count (or f g ∷ fs) xs ((u .1 .0, u .0), u .1 .1) (fits-cast count _ _ xs (omega arith) (p .2)))
-rebuild count [] (Until ∷ xs) u p = absurd (omega (arith, p .1))
-rebuild count (g ∷ []) (Until ∷ xs) u p = absurd (omega (arith, p .1))
-rebuild count (g ∷ f ∷ fs) (Until ∷ xs) u p =
-    one-more count (g ∷ f ∷ fs) (until f g ∷ fs) Until xs
-    (append-assoc (spelled fs ++ postfix f) (postfix g) (Until ∷ []) ∙ append-assoc (spelled fs) (postfix f) (postfix g ++ (Until ∷ []))) (omega arith)
-    (rebuild count (until f g ∷ fs) xs ((u .1 .0, u .0), u .1 .1) (fits-cast count _ _ xs (omega arith) (p .2)))
+  denoting-reads : (steps : List Step) (f : Formula) → Denotes steps f → Utters count f → FineBelow count steps (length steps) × (left-by 0 steps ≡ 1)
+  denoting-reads steps f e u =
+      let runs : Runs 0 steps 1 = subst (λ (ys : List Step). Runs 0 ys 1) (append-nil (postfix f) ∙ sym e) (adds f u 0 [] 1 refl) in
+      (λ i l. runs-fine 0 steps 1 i l runs, runs-left 0 steps 1 runs)
 
-lone : (count : ℕ) (gs : List Formula) (steps : List Step) → length gs ≡ 1 → steps ≡ spelled gs → Uttered count gs → (f : Formula) × (steps ≡ postfix f) × Utters count f
-unfolding spelled
-lone count [] steps n e u = absurd (omega arith)
-lone count (f ∷ []) steps n e u = (f, e, u .0)
-lone count (f ∷ g ∷ gs) steps n e u = absurd (omega arith)
+  utters-made : (x : Step) (f g : Formula) → Known count x → (1 ≤ takes x → Utters count f) → (2 ≤ takes x → Utters count g) → Utters count (made x f g)
+  utters-made True f g known p q = tt
+  utters-made (Word a) f g known p q = known
+  utters-made Not f g known p q = p (omega arith)
+  utters-made Or f g known p q = (p (omega arith), q (omega arith))
+  utters-made Until f g known p q = (p (omega arith), q (omega arith))
+  utters-made Globally f g known p q = p (omega arith)
 
-written : (count : ℕ) (steps : List Step) (f : Formula) → steps ≡ postfix f → Utters count f → FineBelow count steps (length steps) × (left-by 0 steps ≡ 1)
-written count steps f e u =
-    let whole : postfix f ++ [] ≡ steps = append-nil (postfix f) ∙ sym e in
-    let fits : Fits count 0 steps = subst (λ (ys : List Step). Fits count 0 ys) whole (fits-postfix count f u 0 [] tt) in
-    (λ i l. fits-at count 0 steps i l fits, ap (left-by 0) (sym whole) ∙ left-postfix f 0 [])
+  -- the first i steps are those of formulas with words below the count
+  abbrev Built : List Step → ℕ → Type 0
+  Built steps i = (fs : ℕ → Formula) × (take i steps ≡ spelled fs (operands steps i)) × ((j : ℕ) → j < operands steps i → Utters count (fs j))
+
+  built-more : (steps : List Step) (i : ℕ) → i < length steps → Fine count steps i → Built steps i → Built steps (i + 1)
+  built-more steps i l fine b =
+      let x = step-at steps i in
+      let fs = b .0 in
+      let base : ℕ = operands steps i - takes x in
+      let f : Formula = made x (fs base) (fs (base + 1)) in
+      let more : base + 1 ≡ operands steps (i + 1) = omega (arith, operands-more steps i l) in
+      let said : Utters count f = utters-made x (fs base) (fs (base + 1)) (fine .0) (λ one. b .2 base (omega (arith, fine .1))) (λ two. b .2 (base + 1) (omega (arith, fine .1))) in (
+        put fs base f,
+        spelled-more steps i fs (operands steps i) base l (b .1) (omega (arith, fine .1)) ∙ ap (spelled (put fs base f)) more,
+        λ j h. put-below (λ j k. Utters count k) fs base f (λ j h. b .2 j (omega arith)) said j (omega arith),
+      )
+
+  built : (steps : List Step) (i : ℕ) → i ≤ length steps → FineBelow count steps (length steps) → Built steps i
+  built steps zero l fine = (λ _. top, refl, λ j h. absurd (omega arith))
+  built steps (suc i) l fine = subst (λ (n : ℕ). Built steps n) (add-one i) (built-more steps i (omega arith) (fine i (omega arith)) (built steps i (omega arith) fine))
+
+  reading-denotes : (steps : List Step) → Readable count steps → (f : Formula) × Denotes steps f × Utters count f
+  reading-denotes steps r =
+      let n : ℕ = length steps in
+      let b = built steps n (omega arith) (r .1) in
+      let one : operands steps n ≡ 1 = operands-all steps n (omega arith) ∙ r .2 in
+      (b .0 0, sym (take-all n steps (omega arith)) ∙ b .1 ∙ ap (spelled (b .0)) one, b .2 0 (omega arith))
 
 pub readable-formulas : Readable-formulas
-unfolding spelled
 readable-formulas count steps counted = (
-  λ r. let b = rebuild count [] steps tt (at-fits count 0 steps (r .1)) in lone count (b .0) steps (b .1 ∙ r .2) (b .2) (b .3),
-  λ p. let w = written count steps (p .0) (p .1) (p .2) in (counted, w .0, w .1),
+  reading-denotes count steps,
+  λ p. let w = denoting-reads count steps (p .0) (p .1) (p .2) in (counted, w .0, w .1),
 )

@@ -1,7 +1,7 @@
 pub mod Counts
-pub mod Paths
+pub mod Spelling
+pub mod Operators
 pub mod Spreads
 pub mod Stacks
-pub mod Connectives
 pub mod Formed
 pub mod Once

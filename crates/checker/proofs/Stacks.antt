@@ -1,59 +1,34 @@
 -- The stack of operands, and one step more.
 use mathlib.Core.Path.{_≡_, refl, sym, _∙_, ap, subst}
-use mathlib.Core.Bool.{cond}
-use mathlib.Core.List.{List, [], _∷_, _++_}
-use mathlib.Core.Logic.{⊎-elim}
-use Prim.Native.Nat.{ℕ, zero, suc, _+_, _-_, _<_, _≤_}
+use mathlib.Core.List.{List}
+use mathlib.Core.Logic.{_↔_}
+use Prim.Native.Nat.{ℕ, _+_, _-_, _<_, _≤_}
 use native.Mathlib.Omega.{arith}
-use native.Mathlib.Numerals.{add-one}
-use lib.Dec.{eqb}
-use lib.ListN.{length, getD, take, set}
-use borrow.Author.Count.{below-more}
-use Rattle.std.proofs.shelf.Tests.{cases-eq, eq-eqb, ne-eqb, cond-true, cond-false}
-use Rattle.std.proofs.shelf.Lists.{append-assoc, take-more, take-all, length-set, getD-set-same, getD-set-other}
+use lib.ListN.{length, getD, take, drop, set}
+use Rattle.std.proofs.shelf.Lists.{take-all, length-set, getD-set-same, getD-set-other, getD-take, getD-drop}
 use Rattle.sets.specs.declared.Set.{Set}
-use Rattle.sets.specs.Sets.{none}
+use Rattle.sets.specs.Sets.{In, none}
 use Rattle.kripke.specs.Models.{Kripke}
-use Rattle.kripke.specs.Formulas.{Formula}
+use Rattle.kripke.specs.Paths.{Move}
+use Rattle.kripke.specs.Formulas.{Formula, Holds}
+use Rattle.survey.specs.Gaps.{Linked}
 use Rattle.checker.specs.declared.steps.Step.{Step}
-use Rattle.checker.specs.declared.steps.Step.the-variants.{True}
-use Rattle.checker.specs.Steps.{postfix}
+use Rattle.checker.specs.Steps.{Denotes}
 use Rattle.checker.specs.Reading.{takes, step-at, operands}
-use Rattle.checker.specs.Marks.{SetIs}
-use Rattle.checker.proofs.Counts.{operands-more, operands-all}
-
--- the steps of the first n of some formulas, one after the other
-abbrev pub spelled : (ℕ → Formula) → ℕ → List Step
-spelled fs zero = []
-spelled fs (suc n) = spelled fs n ++ postfix (fs n)
+use Rattle.checker.specs.Tables.{Goes}
+use Rattle.checker.specs.Marks.{SetIs, TrueAt}
+use Rattle.checker.proofs.Counts.{operands-more}
+use Rattle.checker.proofs.Operators.{made-holds, step-over}
+use Rattle.checker.proofs.Spelling.{made, spelled, spelled-more, put, put-below}
 
 -- after the first i steps, the operands are the sets of formulas whose steps these are
-pub record Stacked (M : Kripke) (steps : List Step) (i top : ℕ) (stack : List Set) : Type 0 where
+pub record Stacked (M : Kripke) (steps : List Step) (i height : ℕ) (stack : List Set) : Type 0 where
   pub fs : ℕ → Formula
-  pub read : take i steps ≡ spelled fs top
-  pub count : top ≡ operands steps i
-  pub few : top ≤ i
+  pub read : take i steps ≡ spelled fs height
+  pub count : height ≡ operands steps i
+  pub few : height ≤ i
   pub room : length stack ≡ 64
-  pub sets : (j : ℕ) → j < top → SetIs M (fs j) (getD stack j none)
-
--- f in place n
-put : (ℕ → Formula) → ℕ → Formula → ℕ → Formula
-put fs n f j = cond (eqb j n) f (fs j)
-
-put-here : (fs : ℕ → Formula) (n : ℕ) (f : Formula) → put fs n f n ≡ f
-unfolding put
-put-here fs n f = cond-true (eqb n n) f (fs n) (eq-eqb n n refl)
-
-put-other : (fs : ℕ → Formula) (n : ℕ) (f : Formula) (j : ℕ) → (j ≡ n → ⊥) → put fs n f j ≡ fs j
-unfolding put
-put-other fs n f j ne = cond-false (eqb j n) f (fs j) (ne-eqb j n ne)
-
-spelled-put : (fs : ℕ → Formula) (n : ℕ) (f : Formula) (k : ℕ) → k ≤ n → spelled (put fs n f) k ≡ spelled fs k
-spelled-put fs n f zero h = refl
-spelled-put fs n f (suc k) h =
-    let e = spelled-put fs n f k (omega arith) in
-    let q = put-other fs n f k (λ e. omega arith) in
-    cc
+  pub sets : (j : ℕ) → j < height → SetIs M (fs j) (getD stack j none)
 
 pub none-stacked : (M : Kripke) (steps : List Step) (stack : List Set) (f : Formula) → length stack ≡ 64 → Stacked M steps 0 0 stack
 none-stacked M steps stack f room = record {
@@ -65,87 +40,54 @@ none-stacked M steps stack f room = record {
   sets = λ j h. absurd (omega arith);
 }
 
-module _ (M : Kripke) (steps : List Step) (i top : ℕ) (stack : List Set) (s : Stacked M steps i top stack) (h : i < length steps) (short : length steps ≤ 64) where
-  -- the operands from base on make way for the one that the step leaves
-  pub next : (base : ℕ) (v : Set) (f : Formula) → base + takes (step-at steps i) ≡ top →
-      spelled (s .fs) top ++ (step-at steps i ∷ []) ≡ spelled (s .fs) base ++ postfix f →
-      SetIs M f v → Stacked M steps (i + 1) (base + 1) (set stack base v)
-  next base v f w spells is = record {
-    fs = put (s .fs) base f;
-    read =
-        let a = take-more steps i True h in
-        let b = spelled-put (s .fs) base f base (omega arith) in
-        let c = put-here (s .fs) base f in
-        let d : spelled (put (s .fs) base f) (base + 1) ≡ spelled (put (s .fs) base f) base ++ postfix (put (s .fs) base f base) = ap (spelled (put (s .fs) base f)) (add-one base) in
-        let e = s .read in
-        cc;
-    count = omega (arith, operands-more steps i h, s .count);
-    few = omega (arith, s .few);
-    room = length-set stack base v ∙ s .room;
-    sets = below-more (λ j. SetIs M (put (s .fs) base f j) (getD (set stack base v) j none)) base
-        (λ j l.
-        let g = put-other (s .fs) base f j (λ e. omega arith) in
-        let x = getD-set-other stack base j v none (λ e. omega arith) in
-        subst (λ (y : Set). SetIs M (put (s .fs) base f j) y) (sym x) (subst (λ (y : Formula). SetIs M y (getD stack j none)) (sym g) (s .sets j (omega arith))))
-        (subst (λ (y : Set). SetIs M (put (s .fs) base f base) y) (sym (getD-set-same stack base v none (omega (arith, s .room, s .few))))
-        (subst (λ (y : Formula). SetIs M y v) (sym (put-here (s .fs) base f)) is));
-  }
+-- n is the number of states as the code has it
+module _ (M : Kripke) (rows : List Set) (linked : Linked (M .frame) rows) (n : ℕ) (sized : n ≡ M .frame .size) where
+  -- what a step makes of the sets of its operands is the set of its formula
+  step-is : (x : Step) (f g : Formula) (xs : List Set) (v : Set) →
+      (1 ≤ takes x → SetIs M f (getD xs 0 none)) → (2 ≤ takes x → SetIs M g (getD xs 1 none)) →
+      ((s : ℕ) → s < n → In v s ↔ TrueAt (Goes rows) n (M .labels .words) x (In (getD xs 0 none)) (In (getD xs 1 none)) s) →
+      SetIs M (made x f g) v
+  step-is x f g xs v is is′ got s h =
+      let Said : ℕ → Type 0 = λ k. In v s ↔ TrueAt (Goes rows) k (M .labels .words) x (In (getD xs 0 none)) (In (getD xs 1 none)) s in
+      let told : Said (M .frame .size) = subst Said sized (got s (omega arith)) in
+      let carried = step-over (M .frame .size) (Goes rows) (Move (M .frame))
+      (λ a b l p. let v = linked .states a l b .0 p in (v .2, v)) (λ a b l p. (p .2, linked .states a l b .1 p))
+      (M .labels .words) (In (getD xs 0 none)) (Holds M f) (In (getD xs 1 none)) (Holds M g) x is is′ s h in
+      let so = made-holds M x f g s in
+      (λ i. so .0 (carried .0 (told .0 i)), λ p. told .1 (carried .1 (so .1 p)))
 
--- the last operands and a step that takes none, one or two of them
-pub spells-one : (fs : ℕ → Formula) (base top : ℕ) (x : Step) → top ≡ base + 1 →
-    spelled fs top ++ (x ∷ []) ≡ spelled fs base ++ (postfix (fs base) ++ (x ∷ []))
-spells-one fs base top x e =
-    ap (λ n. spelled fs n ++ (x ∷ [])) (e ∙ add-one base) ∙ append-assoc (spelled fs base) (postfix (fs base)) (x ∷ [])
+  module _ (steps : List Step) (i height : ℕ) (stack : List Set) (st : Stacked M steps i height stack) (h : i < length steps) (short : length steps ≤ 64) where
+    -- the operands from base on make way for the one that the step leaves
+    pub stacked-more : (base : ℕ) (v : Set) → base + takes (step-at steps i) ≡ height →
+        ((s : ℕ) → s < n → In v s ↔ TrueAt (Goes rows) n (M .labels .words) (step-at steps i)
+        (In (getD (take (height - base) (drop base stack)) 0 none)) (In (getD (take (height - base) (drop base stack)) 1 none)) s) →
+        Stacked M steps (i + 1) (base + 1) (set stack base v)
+    stacked-more base v w got =
+        let x = step-at steps i in
+        let xs : List Set = take (height - base) (drop base stack) in
+        let f : Formula = made x (st .fs base) (st .fs (base + 1)) in
+        let operand : (k : ℕ) → k < height - base → SetIs M (st .fs (base + k)) (getD xs k none) = λ k l.
+        subst (λ (y : Set). SetIs M (st .fs (base + k)) y)
+        (sym (getD-take (height - base) (drop base stack) k none l ∙ getD-drop base stack k none)) (st .sets (base + k) (omega arith)) in
+        let here : base + 0 ≡ base = omega arith in
+        let is : SetIs M f v = step-is x (st .fs base) (st .fs (base + 1)) xs v
+        (λ l. subst (λ (k : ℕ). SetIs M (st .fs k) (getD xs 0 none)) here (operand 0 (omega arith))) (λ l. operand 1 (omega arith)) got in
+        record {
+          fs = put (st .fs) base f;
+          read = spelled-more steps i (st .fs) height base h (st .read) w;
+          count = omega (arith, operands-more steps i h, st .count);
+          few = omega (arith, st .few);
+          room = length-set stack base v ∙ st .room;
+          sets = put-below (λ j k. SetIs M k (getD (set stack base v) j none)) (st .fs) base f
+              (λ j l. subst (λ (y : Set). SetIs M (st .fs j) y) (sym (getD-set-other stack base j v none (λ e. omega arith))) (st .sets j (omega arith)))
+              (subst (λ (y : Set). SetIs M f y) (sym (getD-set-same stack base v none (omega (arith, st .room, st .few)))) is);
+        }
 
-pub spells-two : (fs : ℕ → Formula) (base top : ℕ) (x : Step) → top ≡ base + 1 + 1 →
-    spelled fs top ++ (x ∷ []) ≡ spelled fs base ++ (postfix (fs base) ++ (postfix (fs (base + 1)) ++ (x ∷ [])))
-spells-two fs base top x e =
-    spells-one fs (base + 1) top x e ∙
-    ap (λ n. spelled fs n ++ (postfix (fs (base + 1)) ++ (x ∷ []))) (add-one base) ∙
-    append-assoc (spelled fs base) (postfix (fs base)) (postfix (fs (base + 1)) ++ (x ∷ []))
-
--- a step that takes none, one or two operands, by what it does to the stack
-module _ (M : Kripke) (steps : List Step) (i top : ℕ) (stack : List Set) (s : Stacked M steps i top stack) (h : i < length steps) (short : length steps ≤ 64)
-    (x : Step) (is : step-at steps i ≡ x) (v : Set) where
-  pub takes-none : (f : Formula) → takes x ≡ 0 → postfix f ≡ x ∷ [] → SetIs M f v → Stacked M steps (i + 1) (top + 1) (set stack top v)
-  takes-none f w p made =
-      let w′ = ap takes is in
-      next M steps i top stack s h short top v f (omega arith) (ap (λ y. spelled (s .fs) top ++ (y ∷ [])) is ∙ ap (λ ys. spelled (s .fs) top ++ ys) (sym p)) made
-
-  pub takes-one : (con : Formula → Formula) → takes x ≡ 1 → takes (step-at steps i) ≤ operands steps i →
-      ((f : Formula) → postfix (con f) ≡ postfix f ++ (x ∷ [])) →
-      ((f : Formula) → SetIs M f (getD stack (top - 1) none) → SetIs M (con f) v) →
-      Stacked M steps (i + 1) top (set stack (top - 1) v)
-  takes-one con w fine p made =
-      let w′ = ap takes is in
-      let here : top ≡ top - 1 + 1 = omega (arith, s .count) in
-      let f : Formula = s .fs (top - 1) in
-      subst (λ (n : ℕ). Stacked M steps (i + 1) n (set stack (top - 1) v)) (sym here)
-      (next M steps i top stack s h short (top - 1) v (con f) (omega (arith, s .count))
-      (ap (λ y. spelled (s .fs) top ++ (y ∷ [])) is ∙ spells-one (s .fs) (top - 1) top x here ∙ ap (λ ys. spelled (s .fs) (top - 1) ++ ys) (sym (p f)))
-      (made f (s .sets (top - 1) (omega arith))))
-
-  pub takes-two : (con : Formula → Formula → Formula) → takes x ≡ 2 → takes (step-at steps i) ≤ operands steps i →
-      ((f g : Formula) → postfix (con f g) ≡ postfix f ++ (postfix g ++ (x ∷ []))) →
-      ((f g : Formula) → SetIs M f (getD stack (top - 1 - 1) none) → SetIs M g (getD stack (top - 1) none) → SetIs M (con f g) v) →
-      Stacked M steps (i + 1) (top - 1) (set stack (top - 1 - 1) v)
-  takes-two con w fine p made =
-      let w′ = ap takes is in
-      let base : ℕ = top - 1 - 1 in
-      let next-one : top - 1 ≡ base + 1 = omega (arith, s .count) in
-      let here : top ≡ base + 1 + 1 = omega (arith, s .count) in
-      let f : Formula = s .fs base in
-      let g : Formula = s .fs (base + 1) in
-      subst (λ (n : ℕ). Stacked M steps (i + 1) n (set stack base v)) (sym next-one)
-      (next M steps i top stack s h short base v (con f g) (omega (arith, s .count))
-      (ap (λ y. spelled (s .fs) top ++ (y ∷ [])) is ∙ spells-two (s .fs) base top x here ∙ ap (λ ys. spelled (s .fs) base ++ ys) (sym (p f g)))
-      (made f g (s .sets base (omega arith)) (subst (λ (n : ℕ). SetIs M g (getD stack n none)) (sym next-one) (s .sets (base + 1) (omega arith)))))
-
--- one operand left: the steps are its formula
-pub whole : (M : Kripke) (steps : List Step) (i top : ℕ) (stack : List Set) → Stacked M steps i top stack → length steps ≤ i → top ≡ 1 →
-    (f : Formula) × (steps ≡ postfix f) × SetIs M f (getD stack 0 none)
-whole M steps i top stack s h e = (
-  s .fs 0,
-  sym (take-all i steps h) ∙ s .read ∙ ap (spelled (s .fs)) e,
-  s .sets 0 (omega arith),
+-- one operand left: the steps denote its formula
+pub whole : (M : Kripke) (steps : List Step) (i height : ℕ) (stack : List Set) → Stacked M steps i height stack → length steps ≤ i → height ≡ 1 →
+    (f : Formula) × Denotes steps f × SetIs M f (getD stack 0 none)
+whole M steps i height stack st h e = (
+  st .fs 0,
+  sym (take-all i steps h) ∙ st .read ∙ ap (spelled (st .fs)) e,
+  st .sets 0 (omega arith),
 )

@@ -17,10 +17,12 @@ use sets::Set;
 use survey::gaps::Gap;
 use survey::rows_of;
 
-pub mod reading;
-pub mod spread;
+mod reading;
+mod spread;
 pub mod steps;
-pub mod truth;
+#[cfg(test)]
+mod tests;
+mod truth;
 
 pub impl From<Gap> for Refused as RefusedFromGap {
     ghost converts = { λ gap r. r ≡ of-model gap };
@@ -51,27 +53,22 @@ impl Refused {
     pub fn numbers(self) -> Numbers
         ensures { λ r. ⌜ r .cause ≡ cause self ⌝ ∗ ⌜ r .place ≡ place self ⌝ ∗ ⌜ r .number ≡ move-number self ⌝ }
     {
-        match self {
+        let (cause, place, number) = match self {
             Refused::Model(gap) => {
                 let of = gap.numbers();
-                told(of.cause, of.place as usize, of.number)
+                (of.cause, of.place as usize, of.number)
             }
-            Refused::Steps(Malformed::Length) => told(31, 0, 0),
-            Refused::Steps(Malformed::TooFewOperands { step }) => told(32, step, 0),
-            Refused::Steps(Malformed::NotOneLeft) => told(33, 0, 0),
-            Refused::Steps(Malformed::UnknownWord { step }) => told(34, step, 0),
-            Refused::ShortMarks => told(35, 0, 0),
+            Refused::Steps(Malformed::Length) => (31, 0, 0),
+            Refused::Steps(Malformed::TooFewOperands { step }) => (32, step, 0),
+            Refused::Steps(Malformed::NotOneLeft) => (33, 0, 0),
+            Refused::Steps(Malformed::UnknownWord { step }) => (34, step, 0),
+            Refused::ShortMarks => (35, 0, 0),
+        };
+        Numbers {
+            cause,
+            place,
+            number,
         }
-    }
-}
-
-fn told(cause: u8, place: usize, number: u16) -> Numbers
-    ensures { λ r. ⌜ r .cause ≡ cause ⌝ ∗ ⌜ r .place ≡ place ⌝ ∗ ⌜ r .number ≡ number ⌝ }
-{
-    Numbers {
-        cause,
-        place,
-        number,
     }
 }
 

@@ -10,7 +10,7 @@ use crate::steps::Step;
 pub const MOST_STEPS: usize = 64;
 
 // How many operands a step takes.
-fn arity(step: Step) -> usize
+pub(crate) fn arity(step: Step) -> usize
     ensures { λ r. ⌜ r ≡ takes step ⌝ }
 {
     match step {
@@ -38,12 +38,11 @@ pub(crate) fn read(steps: &[Step], words: u8) -> Result<(), Malformed>
         return Err(Malformed::Length);
     }
     let mut operands = 0;
-    for i in 0..steps.len() {
-        let step = steps[i];
-        if !is_known(step, words) {
+    for (i, step) in steps.iter().enumerate() {
+        if !is_known(*step, words) {
             return Err(Malformed::UnknownWord { step: i });
         }
-        let taken = arity(step);
+        let taken = arity(*step);
         if operands < taken {
             return Err(Malformed::TooFewOperands { step: i });
         }

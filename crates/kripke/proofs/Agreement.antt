@@ -10,7 +10,7 @@ use Rattle.kripke.proofs.Similar.{Fellow, Follows, Similar}
 use Rattle.kripke.proofs.Paths.{trail-map, trail-last, stays-map, stays-behind, until-behind}
 use Rattle.kripke.proofs.Cycle.{pump, onwards}
 
--- from s, arbitrarily long paths of P: n moves among the states of class e, or moves among them and one out of it to another such state
+-- from s, which has paths of P of every length: n moves inside the class e, or some moves inside it and one out of it, to another such state
 abbrev Scanned : Frame → (ℕ → ℕ) → (ℕ → Type 0) → ℕ → ℕ → ℕ → Type 0
 Scanned F c P e n s =
     Stays (Move F) (λ w. c w ≡ e) n s ⊎
@@ -45,15 +45,15 @@ module _ (M : Kripke) (c : ℕ → ℕ) (X : Kripke) (d : ℕ → ℕ) (F : Foll
             (trail-map (X .frame) (Fellow d x) P′ (λ w b f. like s w h b (e ∙ sym f) (p .1)) (l .2) x (l .0) k (l .3)) (l .4) (r .1)
       ]
 
-  pub forever-over : (m s x : ℕ) → s < M .frame .size → x < X .frame .size → c s ≡ d x → ((n : ℕ) → Stays (Move (M .frame)) P n s) → Stays (Move (X .frame)) P′ m x
-  forever-over zero s x h k e p = like s x h k e (p zero)
-  forever-over (suc m) s x h k e p =
+  pub globally-over : (m s x : ℕ) → s < M .frame .size → x < X .frame .size → c s ≡ d x → ((n : ℕ) → Stays (Move (M .frame)) P n s) → Stays (Move (X .frame)) P′ m x
+  globally-over zero s x h k e p = like s x h k e (p zero)
+  globally-over (suc m) s x h k e p =
       elim (scan (M .frame) c P (c s) (M .frame .size) s refl p) [
         | inl r ↦ stays-map (X .frame) (Fellow d x) P′ over (suc m) x k (F .circles s x h k e (pump (M .frame) (Fellow c s) s h r) (suc m))
         | inr r ↦
             let v : ℕ = r .1 in
             let l = F .leaves s x h k e (c v) (r .5) (r .0, v, r .2, r .3, r .4, refl) in
-            let i = forever-over m v (l .1) (r .4 .2) (l .4 .2) (sym (l .5)) (r .6) in
+            let i = globally-over m v (l .1) (r .4 .2) (l .4 .2) (sym (l .5)) (r .6) in
             let b = trail-map (X .frame) (Fellow d x) P′ over (l .2) x (l .0) k (l .3) in
             stays-behind (X .frame) P′ (l .2) (suc m) x (l .0) b (l .1, trail-last (X .frame) P′ (l .2) x (l .0) b, l .4, i)
       ]
@@ -79,8 +79,8 @@ agree M c X d S (until f g) s x h k e = (
       (Holds X g) (Holds M g) (λ x s k h e. agree M c X d S g s x h k (sym e) .1) (p .0) x s k h (sym e) (p .1),
 )
 agree M c X d S (globally f) s x h k e = (
-  λ p. forever-over M c X d (S .0) (Holds M f) (Holds X f) (λ s x h k e. agree M c X d S f s x h k e .0)
+  λ p. globally-over M c X d (S .0) (Holds M f) (Holds X f) (λ s x h k e. agree M c X d S f s x h k e .0)
       (X .frame .size) s x h k e (pump (M .frame) (Holds M f) s h p),
-  λ p. forever-over X d M c (S .1) (Holds X f) (Holds M f) (λ x s k h e. agree M c X d S f s x h k (sym e) .1)
+  λ p. globally-over X d M c (S .1) (Holds X f) (Holds M f) (λ x s k h e. agree M c X d S f s x h k (sym e) .1)
       (M .frame .size) x s k h (sym e) (pump (X .frame) (Holds X f) x k p),
 )

@@ -1,19 +1,18 @@
 -- The components of a frame are the classes of states that reach one another inside their class of related states.
 use Prim.Native.Nat.{ℕ, zero, suc, _<_}
 use mathlib.Core.Path.{_≡_, refl, sym, _∙_, subst}
-use mathlib.Core.Bool.{Bool, true, false, _&&_}
+use mathlib.Core.Bool.{Bool, true, false}
 use mathlib.Core.Logic.{_↔_, Dec·and}
 use lib.Dec.{ltb, eqb}
-use native.Mathlib.Omega.{arith}
 use Rattle.std.proofs.shelf.Tests.{false≢true, ltb-true, lt-ltb, eqb-true, eq-eqb, and-parts, and-from}
 use Rattle.kripke.specs.Models.{Frame, Kripke, Alike}
 use Rattle.kripke.specs.Equivalence.{Equivalence}
 use Rattle.kripke.specs.Paths.{Move, Trail}
 use Rattle.kripke.specs.Relation.{ST, Refined, Related}
-use Rattle.kripke.specs.Numbering.{Ranked, Numbering}
+use Rattle.kripke.specs.Numbering.{Numbering}
 use Rattle.kripke.specs.Components.{States, Joined, Component, numbered, Components, Cyclic}
 use Rattle.kripke.proofs.Paths.{trail-map, trail-first}
-use Rattle.kripke.proofs.Deciding.{dec-ST}
+use Rattle.kripke.proofs.Roads.{dec-ST}
 use Rattle.kripke.proofs.Rounds.{st-own, st-related, st-more, st-join, between, st-next, refined-equivalence, related-equivalence}
 
 -- s and t reach one another among the states that L relates to them
@@ -86,44 +85,56 @@ module _ (F : Frame) (L : ℕ → ℕ → Type 0) (E : Equivalence (F .size) L) 
   module _ (part : ℕ → ℕ) (count : ℕ) where
     -- a search that numbers by mutual reach has found the components
     pub mutual-components : Numbering (Mutual F L) (F .size) part count → Components F L part count
-    mutual-components N = record {
-      ranked = N .ranked;
-      each = λ i h.
-          let s = N .ranked .member i h in
-          let S = numbered F part i in
-          let to : (u : ℕ) → S u ≡ true → Mutual F L (s .0) u = λ u a.
-              let p = numbered-part F part i u a in
-              N .same (s .0) u (s .1) (p .0) .0 (s .2 ∙ sym (p .1)) in
-          let from : (u : ℕ) → Mutual F L (s .0) u → S u ≡ true = λ u p.
-              let l = mutual-equivalence .members (s .0) u p .1 in
-              part-numbered F part i u l (sym (N .same (s .0) u (s .1) l .1 p) ∙ s .2) in
-          let here = part-numbered F part i (s .0) (s .1) (s .2) in
-          record {
-            some = (s .0, here);
-            joined = mutual-joined S (s .0) to from;
-            largest = λ T J inside u a. from u (joined-mutual T J (s .0) u (inside (s .0) here) a);
-          };
-    }
+    mutual-components N = record { ranked = N .ranked; each = λ i h. let s = N .ranked .member i h in component i (s .0) (s .1) (s .2) }
+      where
+        to : (i s : ℕ) → s < F .size → part s ≡ i → (u : ℕ) → numbered F part i u ≡ true → Mutual F L s u
+        to i s h e u a = let p = numbered-part F part i u a in N .same s u h (p .0) .0 (e ∙ sym (p .1))
 
-    -- and the components are so numbered
-    pub components-mutual : ((s t : ℕ) → Dec (L s t)) → Components F L part count → Numbering (Mutual F L) (F .size) part count
-    components-mutual d K = record {
-      ranked = K .ranked;
-      same = λ s t h l.
-          let i : ℕ = part s in
-          let S = numbered F part i in
-          let C = K .each i (K .ranked .below s h) in
-          let here = part-numbered F part i s h refl in
-          let T : States = λ u. test (Dec·and (dec-ST F L d s u) (dec-ST F L d u s)) in
-          let to : (u : ℕ) → T u ≡ true → Mutual F L s u = λ u a. test-true (Dec·and (dec-ST F L d s u) (dec-ST F L d u s)) a in
-          let from : (u : ℕ) → Mutual F L s u → T u ≡ true = λ u p. true-test (Dec·and (dec-ST F L d s u) (dec-ST F L d u s)) p in (
-            (λ e. joined-mutual S (C .joined) s t here (part-numbered F part i t l (sym e))),
-            (λ p.
-                let inside : (u : ℕ) → S u ≡ true → T u ≡ true = λ u a. from u (joined-mutual S (C .joined) s u here a) in
-                let a = C .largest T (mutual-joined T s to from) inside t (from t p) in
-                sym (numbered-part F part i t a .1)),
-          );
-    }
+        from : (i s : ℕ) → s < F .size → part s ≡ i → (u : ℕ) → Mutual F L s u → numbered F part i u ≡ true
+        from i s h e u p =
+            let l = mutual-equivalence .members s u p .1 in
+            part-numbered F part i u l (sym (N .same s u h l .1 p) ∙ e)
+
+        component : (i s : ℕ) → s < F .size → part s ≡ i → Component F L (numbered F part i)
+        component i s h e =
+            let here = part-numbered F part i s h e in
+            record {
+              some = (s, here);
+              joined = mutual-joined (numbered F part i) s (to i s h e) (from i s h e);
+              largest = λ T J inside u a. from i s h e u (joined-mutual T J s u (inside s here) a);
+            }
+
+    module _ (K : Components F L part count) where
+      -- states of one component reach one another
+      pub component-mutual : (s t : ℕ) → s < F .size → t < F .size → part s ≡ part t → Mutual F L s t
+      component-mutual s t h l e =
+          joined-mutual (numbered F part (part s)) (K .each (part s) (K .ranked .below s h) .joined) s t
+          (part-numbered F part (part s) s h refl) (part-numbered F part (part s) t l (sym e))
+
+      -- and states that reach one another are of one component, the largest
+      mutual-component : ((s t : ℕ) → Dec (L s t)) → (s t : ℕ) → s < F .size → Mutual F L s t → part s ≡ part t
+      mutual-component d s t h p =
+          let C = K .each (part s) (K .ranked .below s h) in
+          sym (numbered-part F part (part s) t (C .largest all (mutual-joined all s to from) inside t (from t p)) .1)
+        where
+          near : (u : ℕ) → Dec (Mutual F L s u)
+          near u = Dec·and (dec-ST F L d s u) (dec-ST F L d u s)
+
+          all : States
+          all u = test (near u)
+
+          to : (u : ℕ) → all u ≡ true → Mutual F L s u
+          to u = test-true (near u)
+
+          from : (u : ℕ) → Mutual F L s u → all u ≡ true
+          from u = true-test (near u)
+
+          inside : (u : ℕ) → numbered F part (part s) u ≡ true → all u ≡ true
+          inside u a = let q = numbered-part F part (part s) u a in from u (component-mutual s u h (q .0) (sym (q .1)))
+
+      -- so the components are numbered by mutual reach
+      pub components-mutual : ((s t : ℕ) → Dec (L s t)) → Numbering (Mutual F L) (F .size) part count
+      components-mutual d = record { ranked = K .ranked; same = λ s t h l. (component-mutual s t h l, mutual-component d s t h) }
 
 -- a component holds a cycle exactly where one of its states moves to one of its states
 pub cyclic-move : (F : Frame) (L : ℕ → ℕ → Type 0) (S : States) → Joined F L S → Cyclic F S ↔ ((s t : ℕ) × Move F s t × (S s ≡ true) × (S t ≡ true))

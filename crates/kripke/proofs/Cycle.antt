@@ -9,18 +9,18 @@ use Rattle.kripke.proofs.Counting.{repeats}
 
 module _ (F : Frame) (P : ℕ → Type 0) where
   -- the state after i moves
-  unfoldable pub after : (n s : ℕ) → Stays (Move F) P n s → ℕ → ℕ
+  unfoldable after : (n s : ℕ) → Stays (Move F) P n s → ℕ → ℕ
   after zero s p i = s
   after (suc n) s p zero = s
   after (suc n) s p (suc i) = after n (p .0) (p .3) i
 
-  pub after-state : (n s : ℕ) (p : Stays (Move F) P n s) → s < F .size → (i : ℕ) → after n s p i < F .size
+  after-state : (n s : ℕ) (p : Stays (Move F) P n s) → s < F .size → (i : ℕ) → after n s p i < F .size
   unfolding after
   after-state zero s p h i = h
   after-state (suc n) s p h zero = h
   after-state (suc n) s p h (suc i) = after-state n (p .0) (p .3) (p .2 .2) i
 
-  pub after-trail : (n s : ℕ) (p : Stays (Move F) P n s) (i : ℕ) → i ≤ n → Trail (Move F) P i s (after n s p i)
+  after-trail : (n s : ℕ) (p : Stays (Move F) P n s) (i : ℕ) → i ≤ n → Trail (Move F) P i s (after n s p i)
   unfolding after
   after-trail zero s p zero h = (refl, p)
   after-trail zero s p (suc i) h = absurd (omega arith)

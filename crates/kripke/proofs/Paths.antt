@@ -1,6 +1,7 @@
 -- Paths: carried over to other predicates, put together, cut off, and run round a cycle.
 use Prim.Native.Nat.{ℕ, zero, suc, _<_}
 use mathlib.Core.Path.{refl, subst}
+use mathlib.Core.Logic.{_⊎_, inl, inr}
 use Rattle.kripke.specs.Models.{Frame}
 use Rattle.kripke.specs.Paths.{Move, Trail, Until, Stays}
 
@@ -22,10 +23,6 @@ module _ (F : Frame) (P : ℕ → Type 0) where
   trail-last zero s t p = subst P (p .0) (p .1)
   trail-last (suc n) s t p = trail-last n (p .0) t (p .3)
 
-  pub trail-ends : (n : ℕ) (s t : ℕ) → s < F .size → Trail (Move F) P n s t → t < F .size
-  trail-ends zero s t h p = rw (p .0) at h
-  trail-ends (suc n) s t h p = trail-ends n (p .0) t (p .2 .2) (p .3)
-
   -- one more move at the end
   pub trail-more : (n : ℕ) (s t u : ℕ) → Trail (Move F) P n s t → Move F t u → P u → Trail (Move F) P (suc n) s u
   trail-more zero s t u p m q = (u, p .1, rw (p .0) m, (refl, q))
@@ -37,10 +34,6 @@ module _ (F : Frame) (P : ℕ → Type 0) where
   trail-join (suc n) k s t u p q =
       let r = trail-join n k (p .0) t u (p .3) q in
       (suc (r .0), (p .0, p .1, p .2, r .1))
-
-  pub stays-first : (n : ℕ) (s : ℕ) → Stays (Move F) P n s → P s
-  stays-first zero s p = p
-  stays-first (suc n) s p = p .1
 
   -- a path with its last move cut off
   pub stays-less : (n : ℕ) (s : ℕ) → Stays (Move F) P (suc n) s → Stays (Move F) P n s
@@ -57,10 +50,22 @@ module _ (F : Frame) (P : ℕ → Type 0) where
   stays-round k x p zero = p .1
   stays-round k x p (suc n) = (p .0, p .1, p .2, stays-behind k n (p .0) x (p .3) (stays-round k x p n))
 
--- a path of P, then a move to a path of P that ends in Q
-pub until-behind : (F : Frame) (P Q : ℕ → Type 0) (k n : ℕ) (s t u : ℕ) →
-    Trail (Move F) P k s t → Move F t u → Until (Move F) P Q n u → (l : ℕ) × Until (Move F) P Q l s
-until-behind F P Q zero n s t u p m q = (suc n, (u, p .1, rw (p .0) m, q))
-until-behind F P Q (suc k) n s t u p m q =
-    let r = until-behind F P Q k n (p .0) t u (p .3) m q in
-    (suc (r .0), (p .0, p .1, p .2, r .1))
+module _ (F : Frame) (P Q : ℕ → Type 0) where
+  -- a path of P, then a move to a path of P that ends in Q
+  pub until-behind : (k n : ℕ) (s t u : ℕ) → Trail (Move F) P k s t → Move F t u → Until (Move F) P Q n u → (l : ℕ) × Until (Move F) P Q l s
+  until-behind zero n s t u p m q = (suc n, (u, p .1, rw (p .0) m, q))
+  until-behind (suc k) n s t u p m q =
+      let r = until-behind k n (p .0) t u (p .3) m q in
+      (suc (r .0), (p .0, p .1, p .2, r .1))
+
+  -- such a path is at its end at once, or leads through P to its last move
+  abbrev pub Arrives : ℕ → Type 0
+  Arrives s = (t u n : ℕ) × Trail (Move F) P n s t × Move F t u × Q u
+
+  pub until-split : (n s : ℕ) → Until (Move F) P Q n s → Q s ⊎ Arrives s
+  until-split zero s p = inl p
+  until-split (suc n) s p =
+      elim (until-split n (p .0) (p .3)) [
+        | inl q ↦ inr (s, p .0, 0, (refl, p .1), p .2, q)
+        | inr e ↦ inr (e .0, e .1, suc (e .2), (p .0, p .1, p .2, e .3), e .4, e .5)
+      ]

@@ -80,12 +80,12 @@ module _ (n m k : ℕ) (f g : ℕ → ℕ) (R : Ranked n f m) (S : Ranked n g k)
     wide-one i j y z (inr p) (inl q) e = absurd (told j z y (q .0) (q .1) (p .1) (sym e))
     wide-one i j y z (inr p) (inr q) e = p .0 ∙ sym (q .0)
 
+    wide : (i : ℕ) → i < suc m → (y : ℕ) × Wide x i y
+    wide i l = ⊎-elim (λ same. (g x, inr (same, refl))) (λ other. (speaker .0 i, inl (omega arith, refl))) (cases-eq i m)
+
     one-more : m < k
     one-more =
-        let h = chosen (suc m) (Wide x) (λ i l. ⊎-elim
-            (λ same. (g x, inr (same, refl)))
-            (λ other. (speaker .0 i, inl (omega arith, refl)))
-            (cases-eq i m)) in
+        let h = chosen (suc m) (Wide x) wide in
         pigeons k (suc m) (h .0) (λ i l. wide-below i (h .0 i) (h .1 i l))
         (λ i j a b e. wide-one i j (h .0 i) (h .0 j) (h .1 i a) (h .1 j b) e)
 
@@ -96,22 +96,26 @@ module _ (n m k : ℕ) (f g : ℕ → ℕ) (R : Ranked n f m) (S : Ranked n g k)
       (λ not-is. one-more s hs (λ q. not-is (sym q)))
       (cases-eq (g s) (speaker .0 (f s)))
 
+-- where two numberings are the same up to s, the one does not give s less than the other
+first-less : (n m : ℕ) (f g : ℕ → ℕ) → Ranked n g m → ((s t : ℕ) → s < n → t < n → f s ≡ f t → g s ≡ g t) →
+    (s : ℕ) → s < n → ((t : ℕ) → t < s → f t ≡ g t) → f s < g s → ⊥
+first-less n m f g S part s h before l =
+    let t = S .order s (f s) h l in
+    let q = part (t .0) s (omega (arith, t .1)) h (before (t .0) (t .1) ∙ t .2) in
+    omega (arith, sym (t .2) ∙ q)
+
 -- two numberings that part the same members are the same
 module _ (n m k : ℕ) (f g : ℕ → ℕ) (R : Ranked n f m) (S : Ranked n g k) (both : (s t : ℕ) → s < n → t < n → (f s ≡ f t) ↔ (g s ≡ g t)) where
-  pub ranked-same : (b s : ℕ) → s < b → s < n → f s ≡ g s
-  ranked-same zero s l h = absurd (omega arith)
-  ranked-same (suc b) s l h =
-      let low : f s < g s → ⊥ = λ d.
-          let t = S .order s (f s) h d in
-          let e = ranked-same b (t .0) (omega (arith, t .1)) (omega (arith, t .1)) in
-          let q = both (t .0) s (omega (arith, t .1)) h .0 (e ∙ t .2) in
-          omega (arith, sym (t .2) ∙ q) in
-      let high : g s < f s → ⊥ = λ d.
-          let t = R .order s (g s) h d in
-          let e = ranked-same b (t .0) (omega (arith, t .1)) (omega (arith, t .1)) in
-          let q = both (t .0) s (omega (arith, t .1)) h .1 (sym e ∙ t .2) in
-          omega (arith, sym (t .2) ∙ q) in
+  same-below : (b s : ℕ) → s < b → s < n → f s ≡ g s
+  same-below zero s l h = absurd (omega arith)
+  same-below (suc b) s l h =
+      let before : (t : ℕ) → t < s → f t ≡ g t = λ t d. same-below b t (omega arith) (omega arith) in
+      let low = first-less n k f g S (λ s t h l. both s t h l .0) s h before in
+      let high = first-less n m g f R (λ s t h l. both s t h l .1) s h (λ t d. sym (before t d)) in
       omega arith
+
+  pub ranked-same : (s : ℕ) → s < n → f s ≡ g s
+  ranked-same s h = same-below (suc s) s (omega arith) h
 
   pub ranked-count : m ≡ k
   ranked-count =

@@ -1,5 +1,5 @@
 -- Where one more round parts nothing, one member of each class speaks for all: what its NEXT and LOOP give is the reduced model.
-use Prim.Native.Nat.{ℕ, suc, _<_}
+use Prim.Native.Nat.{ℕ, _<_}
 use mathlib.Core.Path.{_≡_, sym, _∙_, subst}
 use mathlib.Core.Logic.{_↔_}
 use lib.ListN.{length, getD}

@@ -1,10 +1,8 @@
 -- A round that parts nothing is followed by none that does; each earlier round makes more classes, and there are no more classes than states.
 use Prim.Native.Nat.{ℕ, zero, suc, _+_, _<_, _≤_}
-use mathlib.Core.Path.{_≡_, refl, sym, _∙_, ap, subst}
-use mathlib.Core.Logic.{_↔_, ⊎-elim}
+use mathlib.Core.Path.{_≡_, refl, sym, subst}
 use native.Mathlib.Omega.{arith}
 use native.Mathlib.Decide.{ℕ-discrete}
-use Rattle.std.proofs.shelf.Tests.{cases-eq}
 use Rattle.kripke.specs.Models.{Frame, Kripke, WellFormed}
 use Rattle.kripke.specs.Equivalence.{Equivalence}
 use Rattle.kripke.specs.Numbering.{Numbering}
@@ -69,6 +67,10 @@ related-later M q (suc r) h stable s t p =
           stable-later M q r l stable s t (related-later M q r l stable s t p)
     ]
 
+-- a round that settles is one after which nothing is parted
+pub settles-stable : (M : Kripke) (r : ℕ) → Settles M r → Stable M r
+settles-stable M r S = let q : ℕ = S .0 in subst (Stable M) (sym (S .1)) (stable-next M q (S .2))
+
 -- no round before r parts nothing
 abbrev pub Unsettled : Kripke → ℕ → Type 0
 Unsettled M r = (q : ℕ) → q < r → Stable M q → ⊥
@@ -84,12 +86,12 @@ module _ (M : Kripke) (r m k : ℕ) (f g : ℕ → ℕ) (A : Numbering (Related 
   pub same-stable : m ≡ k → Stable M r
   same-stable e s t p =
       let b = related-equivalence M r .members s t p in
-      B .same s t (b .0) (b .1) .0 (⊎-elim
-        (λ q. q)
-        (λ apart.
+      elim (ℕ-discrete (g s) (g t)) [
+        | yes q ↦ B .same s t (b .0) (b .1) .0 q
+        | no apart ↦
             let o = parts-more (M .frame .size) m k f g (A .ranked) (B .ranked) finer s t (b .0) (b .1) (A .same s t (b .0) (b .1) .1 p) apart in
-            absurd (omega arith))
-        (cases-eq (g s) (g t)))
+            absurd (omega arith)
+      ]
 
   pub stable-same : Stable M r → m ≡ k
   stable-same stable =
@@ -97,10 +99,11 @@ module _ (M : Kripke) (r m k : ℕ) (f g : ℕ → ℕ) (A : Numbering (Related 
       let on = classes-grow in omega arith
 
   pub unsettled-next : Unsettled M r → (m ≡ k → ⊥) → Unsettled M (suc r)
-  unsettled-next going o q b stable = ⊎-elim
-      (λ same. o (stable-same (subst (Stable M) same stable)))
-      (λ other. going q (omega arith) stable)
-      (cases-eq q r)
+  unsettled-next going o q b stable =
+      elim (ℕ-discrete q r) [
+        | yes same ↦ o (stable-same (subst (Stable M) same stable))
+        | no other ↦ going q (omega arith) stable
+      ]
 
 module _ (M : Kripke) (formed : WellFormed M) where
   pub classes : (r : ℕ) → (f : ℕ → ℕ) × ((m : ℕ) × Numbering (Related M r) (M .frame .size) f m)
@@ -115,18 +118,19 @@ module _ (M : Kripke) (formed : WellFormed M) where
         Unsettled M r → h + r ≤ m → m ≡ k → Found
     ended r m k f g A B going low e = (suc r, k, (g, ((r, refl, same-stable M r m k f g A B e, going), (B, omega arith))))
 
-    search-on : (fuel r m : ℕ) (f : ℕ → ℕ) → Numbering (Related M r) (M .frame .size) f m → Unsettled M r → h + r ≤ m → M .frame .size ≤ m + fuel → Found
-    search-on zero r m f A going low left =
+    -- there are at most so many more classes to come
+    settle-from : (more r m : ℕ) (f : ℕ → ℕ) → Numbering (Related M r) (M .frame .size) f m → Unsettled M r → h + r ≤ m → M .frame .size ≤ m + more → Found
+    settle-from zero r m f A going low left =
         let w = classes (suc r) in
         let up = classes-grow M r m (w .1 .0) f (w .0) A (w .1 .1) in
         let few = ranked-few (M .frame .size) (w .1 .0) (w .0) (w .1 .1 .ranked) in
         ended r m (w .1 .0) f (w .0) A (w .1 .1) going low (omega arith)
-    search-on (suc fuel) r m f A going low left =
+    settle-from (suc more) r m f A going low left =
         let w = classes (suc r) in
         let up = classes-grow M r m (w .1 .0) f (w .0) A (w .1 .1) in
         elim (ℕ-discrete m (w .1 .0)) [
           | yes e ↦ ended r m (w .1 .0) f (w .0) A (w .1 .1) going low e
-          | no o ↦ search-on fuel (suc r) (w .1 .0) (w .0) (w .1 .1) (unsettled-next M r m (w .1 .0) f (w .0) A (w .1 .1) going o) (omega arith) (omega arith)
+          | no o ↦ settle-from more (suc r) (w .1 .0) (w .0) (w .1 .1) (unsettled-next M r m (w .1 .0) f (w .0) A (w .1 .1) going o) (omega arith) (omega arith)
         ]
 
   -- some round settles: with h classes at first and m then, h and the rounds are at most m + 1
@@ -134,5 +138,5 @@ module _ (M : Kripke) (formed : WellFormed M) where
   rounds-end =
       let w = classes 0 in
       let h : ℕ = w .1 .0 in
-      let p = search-on h (M .frame .size) 0 h (w .0) (w .1 .1) (λ q b stable. absurd (omega arith)) (omega arith) (omega arith) in
+      let p = settle-from h (M .frame .size) 0 h (w .0) (w .1 .1) (λ q b stable. absurd (omega arith)) (omega arith) (omega arith) in
       (p .0, h, p .1, w .0, p .2 .0, p .2 .1 .0, w .1 .1, p .2 .1 .1 .0, p .2 .1 .1 .1)

@@ -1,317 +1,253 @@
--- Each class of each round has a formula, nested no deeper than the round, that holds in it and nowhere else.
+-- For each state and each round a formula, nested no deeper than the round, that holds at just the states related to it; so what a round parts is told apart, and C_r can be decided.
 use Prim.Native.Nat.{ℕ, zero, suc, _<_, _≤_}
 use mathlib.Core.Path.{_≡_, refl, sym, _∙_, subst}
-use mathlib.Core.Bool.{Bool, true, false, Bool-discrete}
-use mathlib.Core.Logic.{_↔_, inl, inr, Dec·and, Dec·of-iff}
+use mathlib.Core.Bool.{Bool, true, false}
+use mathlib.Core.Logic.{_↔_, _⊎_, inl, inr, Dec·of-iff}
 use native.Mathlib.Omega.{arith}
 use native.Mathlib.Decide.{ℕ-discrete, decLt}
-use Rattle.kripke.specs.Models.{Frame, Kripke, WellFormed}
+use Rattle.kripke.specs.Models.{Frame, Kripke, WellFormed, Alike}
+use Rattle.kripke.specs.Equivalence.{Equivalence}
+use Rattle.kripke.specs.Paths.{Move}
 use Rattle.kripke.specs.Formulas.{Formula, top, word, neg, or, until, globally, depth, Holds}
-use Rattle.kripke.specs.Paths.{Move, Until, Stays}
-use Rattle.kripke.specs.Relation.{ST, NEXT, LOOP, Related}
-use Rattle.kripke.proofs.Paths.{trail-map, trail-last, trail-more, stays-map, stays-behind, stays-round, until-behind}
-use Rattle.kripke.proofs.Cycle.{lasso}
-use Rattle.kripke.proofs.Rounds.{related-equivalence}
-use Rattle.kripke.proofs.Stability.{trail-st}
-use Rattle.kripke.proofs.Finite.{some-below, all-below, dec-iff}
-use Rattle.kripke.proofs.Deciding.{dec-LOOP, dec-NEXT, dec-related}
+use Rattle.kripke.specs.Relation.{ST, NEXT, LOOP, Matched, Refined, Related}
+use Rattle.kripke.proofs.Paths.{trail-map, stays-map, until-behind, until-split}
+use Rattle.kripke.proofs.Rounds.{st-related, st-more, related-equivalence}
+use Rattle.kripke.proofs.Stability.{loop-stays}
+use Rattle.kripke.proofs.Truth.{dec-holds}
 
-abbrev both : Formula → Formula → Formula
+-- f and g; each of g 0 to g (n - 1); f or its negation, as the decision has it
+both : Formula → Formula → Formula
 both f g = neg (or (neg f) (neg g))
 
--- f holds at w exactly where A is so
-abbrev Says : Kripke → Formula → ℕ → Type 0 → Type 0
-Says M f w A = Holds M f w ↔ A
+all : ℕ → (ℕ → Formula) → Formula
+all zero g = top
+all (suc n) g = both (g n) (all n g)
 
-says-both : (M : Kripke) (f g : Formula) (w : ℕ) (A B : Type 0) → Dec A → (A → Dec B) → Says M f w A → (A → Says M g w B) →
-    Says M (both f g) w (A × B)
-says-both M f g w A B (no o) e p q = ((λ h. absurd (h (inl (λ x. o (p .0 x))))), (λ r. absurd (o (r .0))))
-says-both M f g w A B (yes a) e p q = (
-  (λ h. elim (e a) [
-    | yes b ↦ (a, b)
-    | no o ↦ absurd (h (inr (λ x. o (q a .0 x))))
-  ]),
-  (λ r. elim [ inl n ↦ n (p .1 a) | inr n ↦ n (q a .1 (r .1)) ]),
-)
+side : {A : Type 0} → Dec A → Formula → Formula
+side (yes a) f = f
+side (no o) f = neg f
 
-abbrev all-of : ℕ → (ℕ → Formula) → Formula
-all-of zero F = top
-all-of (suc n) F = both (F n) (all-of n F)
+side-depth : {A : Type 0} (d : Dec A) (f : Formula) → depth (side d f) ≡ depth f
+unfolding side
+side-depth (yes a) f = refl
+side-depth (no o) f = refl
 
-depth-all : (k n : ℕ) (F : ℕ → Formula) → ((u : ℕ) → depth (F u) ≤ k) → depth (all-of n F) ≤ k
-depth-all k zero F h = omega arith
-depth-all k (suc n) F h = let a = h n in let b = depth-all k n F h in omega arith
+all-depth : (n : ℕ) (g : ℕ → Formula) (k : ℕ) → ((i : ℕ) → depth (g i) ≤ k) → depth (all n g) ≤ k
+unfolding all both
+all-depth zero g k h = omega arith
+all-depth (suc n) g k h = omega (arith, h n, all-depth n g k h)
 
-says-all : (M : Kripke) (w n : ℕ) (F : ℕ → Formula) (A : ℕ → Type 0) → ((u : ℕ) → Dec (A u)) → ((u : ℕ) → Says M (F u) w (A u)) →
-    Says M (all-of n F) w ((u : ℕ) → u < n → A u)
-says-all M w zero F A d p = ((λ _ u h. absurd (omega arith)), (λ _. tt))
-says-all M w (suc n) F A d p =
-    let s = says-both M (F n) (all-of n F) w (A n) ((u : ℕ) → u < n → A u) (d n) (λ _. all-below n A d) (p n) (λ _. says-all M w n F A d p) in (
-      (λ h u b. let q = s .0 h in elim (ℕ-discrete u n) [
-        | yes same ↦ subst A (sym same) (q .0)
-        | no other ↦ q .1 u (omega arith)
-      ]),
-      (λ q. s .1 (q n (omega arith), λ u b. q u (omega arith))),
-    )
+certain : {A : Type 0} → Dec A → ((A → ⊥) → ⊥) → A
+certain (yes a) h = a
+certain (no o) h = absurd (h o)
 
--- f where A is so, its negation where it is not
-abbrev like : {A : Type 0} → Dec A → Formula → Formula
-like (yes a) f = f
-like (no o) f = neg f
-
-depth-like : {A : Type 0} (d : Dec A) (f : Formula) → depth (like d f) ≡ depth f
-depth-like (yes a) f = refl
-depth-like (no o) f = refl
-
-says-like : (M : Kripke) (w : ℕ) (A B : Type 0) (d : Dec A) (f : Formula) → Says M f w B → Says M (like d f) w (A ↔ B)
-says-like M w A B (yes a) f p = ((λ h. (λ _. p .0 h, λ _. a)), (λ e. p .1 (e .0 a)))
-says-like M w A B (no o) f p = ((λ n. (λ a. absurd (o a), λ b. absurd (n (p .1 b)))), (λ e h. o (e .1 (p .0 h))))
-
--- a path of as many moves as there are states, among related ones, is as good as a cycle
-pub loop-stays : (F : Frame) (C : ℕ → ℕ → Type 0) (s : ℕ) → s < F .size → LOOP F C s ↔ Stays (Move F) (C s) (F .size) s
-loop-stays F C s h = (
-  (λ l.
-      let x : ℕ = l .0 in
-      let reach = l .2 .1 in
-      let back = trail-map F (ST F C s) (C s) (λ w _ f. trail-last F (C s) (f .0) s w (f .1)) (suc (l .1)) x x (l .2 .2 .1) (l .2) in
-      stays-behind F (C s) (reach .0) (F .size) s x (reach .1) (stays-round F (C s) (l .1) x back (F .size))),
-  (λ p.
-      let l = lasso F (C s) s h p in
-      (l .0, l .2, trail-st F C s (suc (l .2)) (l .0) (l .0) (l .1, l .3) (l .4))),
-)
-
--- s can leave for the class of u
-abbrev Departs : Frame → (ℕ → ℕ → Type 0) → ℕ → ℕ → Type 0
-Departs F C s u = (v : ℕ) × NEXT F C s v × C u v
-
-module _ (M : Kripke) (r s : ℕ) (f : Formula) (marks : (w : ℕ) → w < M .frame .size → Says M f w (Related M r s w)) (w : ℕ) (h : w < M .frame .size)
-    (near : Related M r s w) where
-  abbrev C : ℕ → ℕ → Type 0
-  C = Related M r
-
-  -- f holds at what is related to w
-  there : (x : ℕ) → x < M .frame .size → C w x → Holds M f x
-  there x b p = marks x b .1 (related-equivalence M r .join s w x near p)
-
-  here : (x : ℕ) → x < M .frame .size → Holds M f x → C w x
-  here x b p = related-equivalence M r .join w s x (related-equivalence M r .turn s w near) (marks x b .0 p)
-
-  says-forever : Says M (globally f) w (LOOP (M .frame) C w)
-  says-forever = (
-    (λ p. loop-stays (M .frame) C w h .1 (stays-map (M .frame) (Holds M f) (C w) here (M .frame .size) w h p)),
-    (λ l. stays-map (M .frame) (C w) (Holds M f) there (M .frame .size) w h (loop-stays (M .frame) C w h .0 l)),
+module _ (M : Kripke) where
+  both-holds : (f g : Formula) (s : ℕ) → Holds M (both f g) s ↔ (Holds M f s × Holds M g s)
+  unfolding both
+  both-holds f g s = (
+    (λ h. (certain (dec-holds M f s) (λ n. h (inl n)), certain (dec-holds M g s) (λ n. h (inr n)))),
+    (λ h k. elim k [ inl n ↦ n (h .0) | inr n ↦ n (h .1) ]),
   )
 
-  module _ (u : ℕ) (far : C s u → ⊥) (g : Formula) (marks′ : (x : ℕ) → x < M .frame .size → Says M g x (C u x)) where
-    -- what u is related to is not reached within from w
-    off : (x : ℕ) → C u x → C w x → ⊥
-    off x p q = far (related-equivalence M r .join s x u (related-equivalence M r .join s w x near q) (related-equivalence M r .turn u x p))
+  all-holds : (n : ℕ) (g : ℕ → Formula) (s : ℕ) → Holds M (all n g) s ↔ ((i : ℕ) → i < n → Holds M (g i) s)
+  unfolding all
+  all-holds zero g s = ((λ _ i h. absurd (omega arith)), (λ _. tt))
+  all-holds (suc n) g s =
+      let b = both-holds (g n) (all n g) s in
+      let rest = all-holds n g s in (
+        (λ h i l. elim (ℕ-discrete i n) [
+          | yes e ↦ subst (λ i. Holds M (g i) s) (sym e) (b .0 h .0)
+          | no o ↦ rest .0 (b .0 h .1) i (omega arith)
+        ]),
+        (λ h. b .1 (h n (omega arith), rest .1 (λ i l. h i (omega arith)))),
+      )
 
-    until-departs : (n x : ℕ) → x < M .frame .size → ST (M .frame) C w x → Until (Move (M .frame)) (Holds M f) (Holds M g) n x → Departs (M .frame) C w u
-    until-departs zero x b p q = absurd (off x (marks′ x b .0 q) (trail-last (M .frame) (C w) (p .0) w x (p .1)))
-    until-departs (suc zero) x b p q =
-        let t : ℕ = q .0 in
-        let e = marks′ t (q .2 .2) .0 (q .3) in
-        (t, (x, (λ i. off t e (trail-last (M .frame) (C w) (i .0) w t (i .1))), p, q .2), e)
-    until-departs (suc (suc n)) x b p q =
-        let t : ℕ = q .0 in
-        let next : ST (M .frame) C w t = (suc (p .0), trail-more (M .frame) (C w) (p .0) w x t (p .1) (q .2) (here t (q .2 .2) (q .3 .1))) in
-        until-departs (suc n) t (q .2 .2) next (q .3)
+  -- as s has it
+  agreeing : Formula → ℕ → Formula
+  agreeing f s = side (dec-holds M f s) f
 
-    says-until : Says M (until f g) w (Departs (M .frame) C w u)
-    says-until = (
-      (λ p. until-departs (p .0) w h (0, (refl, related-equivalence M r .own w h)) (p .1)),
-      (λ x.
-          let e = x .1 in
-          until-behind (M .frame) (Holds M f) (Holds M g) (e .2 .0) 0 w (e .0) (x .0)
-          (trail-map (M .frame) (C w) (Holds M f) there (e .2 .0) w (e .0) h (e .2 .1)) (e .3) (marks′ (x .0) (e .3 .2) .1 (x .2))),
+  side-holds : (f : Formula) (s t : ℕ) (d : Dec (Holds M f s)) → Holds M (side d f) t ↔ (Holds M f s ↔ Holds M f t)
+  unfolding side
+  side-holds f s t (yes a) = ((λ b. (λ _. b, λ _. a)), (λ e. e .0 a))
+  side-holds f s t (no o) = ((λ b. (λ a. absurd (o a), λ c. absurd (b c))), (λ e c. o (e .1 c)))
+
+  agreeing-holds : (f : Formula) (s t : ℕ) → Holds M (agreeing f s) t ↔ (Holds M f s ↔ Holds M f t)
+  unfolding agreeing
+  agreeing-holds f s t = side-holds f s t (dec-holds M f s)
+
+  agreeing-depth : (f : Formula) (s : ℕ) → depth (agreeing f s) ≡ depth f
+  unfolding agreeing
+  agreeing-depth f s = side-depth (dec-holds M f s) f
+
+-- χ s holds at just the states that C relates to s
+abbrev Tells : Kripke → (ℕ → ℕ → Type 0) → (ℕ → Formula) → Type 0
+Tells M C χ = (s t : ℕ) → s < M .frame .size → t < M .frame .size → Holds M (χ s) t ↔ C s t
+
+-- for the next round: in the class of s, with EG of it and E(of it U each class) as s has them
+further : Kripke → (ℕ → Formula) → ℕ → Formula
+further M χ s = both (χ s) (both (agreeing M (globally (χ s)) s) (all (M .frame .size) (λ u. agreeing M (until (χ s) (χ u)) s)))
+
+module _ (M : Kripke) (C : ℕ → ℕ → Type 0) (E : Equivalence (M .frame .size) C) (χ : ℕ → Formula) (T : Tells M C χ) where
+  abbrev F : Frame
+  F = M .frame
+
+  -- in the class of c, to which t belongs, χ c holds
+  says : (c t : ℕ) → C c t → (x : ℕ) → x < F .size → C t x → Holds M (χ c) x
+  says c t h x k p = T c x (E .members c t h .0) k .1 (E .join c t x h p)
+
+  means : (c t : ℕ) → C c t → (x : ℕ) → x < F .size → Holds M (χ c) x → C t x
+  means c t h x k p = E .join t c x (E .turn c t h) (T c x (E .members c t h .0) k .0 p)
+
+  globally-loop : (c t : ℕ) → C c t → Holds M (globally (χ c)) t ↔ LOOP F C t
+  globally-loop c t h =
+      let l = loop-stays F C t (E .members c t h .1) in (
+        (λ p. l .1 (stays-map F (Holds M (χ c)) (C t) (means c t h) (F .size) t (E .members c t h .1) p)),
+        (λ p. stays-map F (C t) (Holds M (χ c)) (says c t h) (F .size) t (E .members c t h .1) (l .0 p)),
+      )
+
+  -- one move from ST(t) to the class of u
+  abbrev Leads : ℕ → ℕ → Type 0
+  Leads t u = (x v : ℕ) × ST F C t x × Move F x v × C u v
+
+  until-says : (c u t : ℕ) → C c t → Leads t u → Holds M (until (χ c) (χ u)) t
+  until-says c u t h l =
+      let way = trail-map F (C t) (Holds M (χ c)) (says c t h) (l .2 .0) t (l .0) (E .members c t h .1) (l .2 .1) in
+      until-behind F (Holds M (χ c)) (Holds M (χ u)) (l .2 .0) 0 t (l .0) (l .1) way (l .3) (T u (l .1) (E .members u (l .1) (l .4) .0) (l .3 .2) .1 (l .4))
+
+  until-means : (c u t : ℕ) → C c t → u < F .size → Holds M (until (χ c) (χ u)) t → C u t ⊎ Leads t u
+  until-means c u t h k p =
+      let b = E .members c t h .1 in
+      elim (until-split F (Holds M (χ c)) (Holds M (χ u)) (p .0) t (p .1)) [
+        | inl q ↦ inl (T u t k b .0 q)
+        | inr e ↦
+            let way = trail-map F (Holds M (χ c)) (C t) (means c t h) (e .2) t (e .0) b (e .3) in
+            inr (e .0, e .1, (e .2, way), e .4, T u (e .1) k (e .4 .2) .0 (e .5))
+      ]
+
+  -- what holds of s holds of t in its class: then the states of NEXT(s) are matched
+  matched : (c s t : ℕ) → C c s → C c t → ((u : ℕ) → u < F .size → Holds M (until (χ c) (χ u)) s → Holds M (until (χ c) (χ u)) t) → Matched F C s t
+  matched c s t hs ht f u x =
+      let near : C s t = E .join s c t (E .turn c s hs) ht in
+      let k = x .3 .2 in
+      -- u itself is not related to s
+      let out : C s u → ⊥ = λ q. x .1 (st-more F C E s (x .0) u (x .2) (x .3) q) in
+      elim (until-means c u t ht k (f u k (until-says c u s hs (x .0, u, x .2, x .3, E .own u k)))) [
+        | inl p ↦ absurd (out (E .join s t u near (E .turn u t p)))
+        | inr l ↦ (l .1, (l .0, (λ q. out (E .join s t u near (E .join t (l .1) u (st-related F C E t (l .1) q) (E .turn u (l .1) (l .4))))), l .2, l .3), l .4)
+      ]
+
+  dec-class : (s t : ℕ) → s < F .size → t < F .size → Dec (C s t)
+  dec-class s t h k = Dec·of-iff (T s t h k) (dec-holds M (χ s) t)
+
+  -- and the other way round
+  carried : (c s t : ℕ) → C c s → C c t → Matched F C s t → (u : ℕ) → u < F .size → Holds M (until (χ c) (χ u)) s → Holds M (until (χ c) (χ u)) t
+  carried c s t hs ht f u k p =
+      elim (until-means c u s hs k p) [
+        | inl q ↦ at-once q
+        | inr l ↦ elim (dec-class s (l .1) (E .members c s hs .1) (l .3 .2)) [
+          | yes q ↦ at-once (E .join u (l .1) s (l .4) (E .turn s (l .1) q))
+          | no out ↦
+              let v = f (l .1) (l .0, (λ q. out (st-related F C E s (l .1) q)), l .2, l .3) in
+              until-says c u t ht (v .1 .0, v .0, v .1 .2, v .1 .3, E .join u (l .1) (v .0) (l .4) (v .2))
+        ]
+      ]
+    where
+      at-once : C u s → Holds M (until (χ c) (χ u)) t
+      at-once q = (0, T u t k (E .members c t ht .1) .1 (E .join u s t q (E .join s c t (E .turn c s hs) ht)))
+
+  further-tells : Tells M (Refined F C) (further M χ)
+  unfolding further
+  further-tells s t h k = (to, from)
+    where
+      own : C s s
+      own = E .own s h
+
+      loop : Formula
+      loop = globally (χ s)
+
+      leave : ℕ → Formula
+      leave u = until (χ s) (χ u)
+
+      rest : Formula
+      rest = all (F .size) (λ u. agreeing M (leave u) s)
+
+      to : Holds M (further M χ s) t → Refined F C s t
+      to w =
+          let p = both-holds M (χ s) (both (agreeing M loop s) rest) t .0 w in
+          let q = both-holds M (agreeing M loop s) rest t .0 (p .1) in
+          let near = T s t h k .0 (p .0) in
+          let e = agreeing-holds M loop s t .0 (q .0) in
+          let f : (u : ℕ) → u < F .size → Holds M (leave u) s ↔ Holds M (leave u) t = λ u i. agreeing-holds M (leave u) s t .0 (all-holds M (F .size) (λ u. agreeing M (leave u) s) t .0 (q .1) u i) in
+          let a = globally-loop s s own in
+          let b = globally-loop s t near in (
+            near,
+            ((λ l. b .0 (e .0 (a .1 l))), (λ l. a .0 (e .1 (b .1 l)))),
+            matched s s t own near (λ u i. f u i .0),
+            matched s t s near own (λ u i. f u i .1),
+          )
+
+      from : Refined F C s t → Holds M (further M χ s) t
+      from w =
+          let a = globally-loop s s own in
+          let b = globally-loop s t (w .0) in
+          both-holds M (χ s) (both (agreeing M loop s) rest) t .1 (
+            T s t h k .1 (w .0),
+            both-holds M (agreeing M loop s) rest t .1 (
+              agreeing-holds M loop s t .1 ((λ p. b .1 (w .1 .0 (a .0 p))), (λ p. a .1 (w .1 .1 (b .0 p)))),
+              all-holds M (F .size) (λ u. agreeing M (leave u) s) t .1
+                  (λ u i. agreeing-holds M (leave u) s t .1 (carried s s t own (w .0) (w .2) u i, carried s t s (w .0) own (w .3) u i)),
+            ),
+          )
+
+further-depth : (M : Kripke) (χ : ℕ → Formula) (r : ℕ) → ((s : ℕ) → depth (χ s) ≤ r) → (s : ℕ) → depth (further M χ s) ≤ suc r
+unfolding further both
+further-depth M χ r d s =
+    let leave = all-depth (M .frame .size) (λ u. agreeing M (until (χ s) (χ u)) s) (suc r)
+    (λ u. omega (arith, agreeing-depth M (until (χ s) (χ u)) s, d s, d u)) in
+    omega (arith, d s, agreeing-depth M (globally (χ s)) s)
+
+-- the formula of the class of s after r rounds
+pub characteristic : Kripke → ℕ → ℕ → Formula
+characteristic M zero s = all (M .labels .count) (λ a. agreeing M (word a) s)
+characteristic M (suc r) s = further M (characteristic M r) s
+
+pub characteristic-depth : (M : Kripke) (r s : ℕ) → depth (characteristic M r s) ≤ r
+unfolding characteristic
+characteristic-depth M zero s = all-depth (M .labels .count) (λ a. agreeing M (word a) s) 0 (λ a. omega (arith, agreeing-depth M (word a) s))
+characteristic-depth M (suc r) s = further-depth M (characteristic M r) r (characteristic-depth M r) s
+
+same-bool : (a b : Bool) → ((a ≡ true) ↔ (b ≡ true)) → a ≡ b
+same-bool true b e = sym (e .0 refl)
+same-bool false true e = e .1 refl
+same-bool false false e = refl
+
+words-tell : (M : Kripke) → WellFormed M → Tells M (Alike M) (characteristic M zero)
+unfolding characteristic
+words-tell M formed s t h k =
+    let p = all-holds M (M .labels .count) (λ a. agreeing M (word a) s) t in (
+      (λ w. (
+        h,
+        k,
+        λ a. elim (decLt a (M .labels .count)) [
+          | yes l ↦ same-bool (M .labels .words s a) (M .labels .words t a) (agreeing-holds M (word a) s t .0 (p .0 w a l))
+          | no o ↦ formed .labels .within s a (omega arith) ∙ sym (formed .labels .within t a (omega arith))
+        ],
+      )),
+      (λ e. p .1 (λ a _. agreeing-holds M (word a) s t .1 ((λ x. sym (e .2 a) ∙ x), (λ x. e .2 a ∙ x)))),
     )
 
--- one more round, said of each state that can be left for
-abbrev Next : Kripke → ℕ → ℕ → ℕ → Type 0
-Next M r s w =
-    (LOOP (M .frame) (Related M r) s ↔ LOOP (M .frame) (Related M r) w) ×
-    ((u : ℕ) → u < M .frame .size → Departs (M .frame) (Related M r) s u ↔ Departs (M .frame) (Related M r) w u)
-
-next-iff : (M : Kripke) (r s w : ℕ) → Related M (suc r) s w ↔ (Related M r s w × Next M r s w)
-next-iff M r s w = (
-  (λ p. (
-    p .0,
-    (
-      p .1,
-      λ u h. (
-        (λ e. let m = p .2 (e .0) (e .1) in (m .0, m .1, related-equivalence M r .join u (e .0) (m .0) (e .2) (m .2))),
-        (λ e. let m = p .3 (e .0) (e .1) in (m .0, m .1, related-equivalence M r .join u (e .0) (m .0) (e .2) (m .2))),
-      ),
-    ),
-  )),
-  (λ q. (
-    q .0,
-    q .1 .0,
-    (λ v x. q .1 .1 v (x .3 .2) .0 (v, x, related-equivalence M r .own v (x .3 .2))),
-    (λ v x. q .1 .1 v (x .3 .2) .1 (v, x, related-equivalence M r .own v (x .3 .2))),
-  )),
-)
-
--- f holds in the class of s after r rounds and nowhere else
-abbrev pub Marks : Kripke → ℕ → ℕ → Formula → Type 0
-Marks M r s f = (depth f ≤ r) × ((w : ℕ) → w < M .frame .size → Holds M f w ↔ Related M r s w)
-
-bool-iff : (x y : Bool) → ((x ≡ true) ↔ (y ≡ true)) → x ≡ y
-bool-iff true true e = refl
-bool-iff true false e = sym (e .0 refl)
-bool-iff false true e = e .1 refl
-bool-iff false false e = refl
-
-dec-departs : (F : Frame) (C : ℕ → ℕ → Type 0) → ((s t : ℕ) → Dec (C s t)) → (s u : ℕ) → Dec (Departs F C s u)
-dec-departs F C d s u =
-    Dec·of-iff ((λ p. (p .0, p .2 .0, p .2 .1)), (λ e. (e .0, e .1 .3 .2, (e .1, e .2))))
-    (some-below (F .size) (λ v. NEXT F C s v × C u v) (λ v. Dec·and (dec-NEXT F C d s v) (d u v)))
-
--- no state leaves for its own class
-stays-home : (M : Kripke) (r s u : ℕ) → Related M r s u → Departs (M .frame) (Related M r) s u → ⊥
-stays-home M r s u p e =
-    let x = e .1 in
-    let C = Related M r in
-    x .1 (suc (x .2 .0), trail-more (M .frame) (C s) (x .2 .0) s (x .0) (e .0) (x .2 .1) (x .3) (related-equivalence M r .join s u (e .0) p (e .2)))
-
--- nothing to say where A is so
-abbrev unless : {A : Type 0} → Dec A → Formula → Formula
-unless (yes a) f = top
-unless (no o) f = f
-
-depth-unless : {A : Type 0} (k : ℕ) (d : Dec A) (f : Formula) → depth f ≤ k → depth (unless d f) ≤ k
-depth-unless k (yes a) f h = omega arith
-depth-unless k (no o) f h = h
-
-says-unless : (M : Kripke) (w : ℕ) (A B : Type 0) (d : Dec A) (f : Formula) → (A → B) → ((A → ⊥) → Says M f w B) → Says M (unless d f) w B
-says-unless M w A B (yes a) f p q = ((λ _. p a), (λ _. tt))
-says-unless M w A B (no o) f p q = q o
-
-first-mark : (M : Kripke) → WellFormed M → (s : ℕ) → (f : Formula) × Marks M 0 s f
-first-mark M formed s = (
-  f,
-  (
-    depth-f,
-    λ w h.
-        let p = says-both M there words w (s < M .frame .size ↔ Unit {0}) ((a : ℕ) → a < M .labels .count → Same w a)
-        (dec-iff (decLt s (M .frame .size)) (yes tt)) (λ _. all-below (M .labels .count) (Same w) (dec-same w))
-        (says-like M w (s < M .frame .size) (Unit {0}) (decLt s (M .frame .size)) top ((λ _. tt), (λ _. tt)))
-        (λ _. says-all M w (M .labels .count) letter (Same w) (dec-same w)
-        (λ a. says-like M w (M .labels .words s a ≡ true) (M .labels .words w a ≡ true) (Bool-discrete (M .labels .words s a) true) (word a) ((λ q. q), (λ q. q)))) in (
-          (λ q. let e = p .0 q in (
-            e .0 .1 tt,
-            h,
-            λ a. elim (decLt a (M .labels .count)) [
-              | yes b ↦ bool-iff (M .labels .words s a) (M .labels .words w a) (e .1 a b)
-              | no o ↦ formed .labels .within s a (omega arith) ∙ sym (formed .labels .within w a (omega arith))
-            ],
-          )),
-          (λ q. p .1 (((λ _. tt), (λ _. q .0)), λ a _. ((λ e. sym (q .2 a) ∙ e), (λ e. q .2 a ∙ e)))),
-        ),
-  ),
-)
-  where
-    Same : ℕ → ℕ → Type 0
-    Same w a = (M .labels .words s a ≡ true) ↔ (M .labels .words w a ≡ true)
-
-    dec-same : (w a : ℕ) → Dec (Same w a)
-    dec-same w a = dec-iff (Bool-discrete (M .labels .words s a) true) (Bool-discrete (M .labels .words w a) true)
-
-    there : Formula
-    there = like (decLt s (M .frame .size)) top
-
-    letter : ℕ → Formula
-    letter a = like (Bool-discrete (M .labels .words s a) true) (word a)
-
-    words : Formula
-    words = all-of (M .labels .count) letter
-
-    f : Formula
-    f = both there words
-
-    depth-f : depth f ≤ 0
-    depth-f =
-        let a = depth-like (decLt s (M .frame .size)) top in
-        let b = depth-all 0 (M .labels .count) letter (λ a. let e = depth-like (Bool-discrete (M .labels .words s a) true) (word a) in omega arith) in
-        omega arith
-
-module _ (M : Kripke) (formed : WellFormed M) (r : ℕ) (before : (s : ℕ) → (f : Formula) × Marks M r s f) (s : ℕ) where
-  d : (u v : ℕ) → Dec (Related M r u v)
-  d = dec-related M formed r
-
-  abbrev f : Formula
-  f = before s .0
-
-  abbrev circling : Formula
-  circling = like (dec-LOOP (M .frame) (Related M r) d s) (globally f)
-
-  abbrev leaving : ℕ → Formula
-  leaving u = unless (d s u) (like (dec-departs (M .frame) (Related M r) d s u) (until f (before u .0)))
-
-  abbrev rest : Formula
-  rest = both circling (all-of (M .frame .size) leaving)
-
-  depth-rest : depth rest ≤ suc r
-  depth-rest =
-      let a = before s .1 .0 in
-      let b = depth-like (dec-LOOP (M .frame) (Related M r) d s) (globally f) in
-      let c = depth-all (suc r) (M .frame .size) leaving (λ u.
-      let p = before u .1 .0 in
-      let e = depth-like (dec-departs (M .frame) (Related M r) d s u) (until f (before u .0)) in
-      depth-unless (suc r) (d s u) (like (dec-departs (M .frame) (Related M r) d s u) (until f (before u .0))) (omega arith)) in
-      omega arith
-
-  says-leaving : (w : ℕ) → w < M .frame .size → Related M r s w → (u : ℕ) →
-      Says M (leaving u) w (Departs (M .frame) (Related M r) s u ↔ Departs (M .frame) (Related M r) w u)
-  says-leaving w h near u =
-      says-unless M w (Related M r s u) (Departs (M .frame) (Related M r) s u ↔ Departs (M .frame) (Related M r) w u) (d s u)
-      (like (dec-departs (M .frame) (Related M r) d s u) (until f (before u .0)))
-      (λ p. (
-        (λ e. absurd (stays-home M r s u p e)),
-        (λ e. absurd (stays-home M r w u (related-equivalence M r .join w s u (related-equivalence M r .turn s w near) p) e)),
-      ))
-      (λ far. says-like M w (Departs (M .frame) (Related M r) s u) (Departs (M .frame) (Related M r) w u) (dec-departs (M .frame) (Related M r) d s u) (until f (before u .0))
-      (says-until M r s f (before s .1 .1) w h near u far (before u .0) (before u .1 .1)))
-
-  says-rest : (w : ℕ) → w < M .frame .size → Related M r s w → Says M rest w (Next M r s w)
-  says-rest w h near =
-      says-both M circling (all-of (M .frame .size) leaving) w
-      (LOOP (M .frame) (Related M r) s ↔ LOOP (M .frame) (Related M r) w)
-      ((u : ℕ) → u < M .frame .size → Departs (M .frame) (Related M r) s u ↔ Departs (M .frame) (Related M r) w u)
-      (dec-iff (dec-LOOP (M .frame) (Related M r) d s) (dec-LOOP (M .frame) (Related M r) d w))
-      (λ _. all-below (M .frame .size) (λ u. Departs (M .frame) (Related M r) s u ↔ Departs (M .frame) (Related M r) w u) (dec-leaving w))
-      (says-like M w (LOOP (M .frame) (Related M r) s) (LOOP (M .frame) (Related M r) w) (dec-LOOP (M .frame) (Related M r) d s) (globally f)
-      (says-forever M r s f (before s .1 .1) w h near))
-      (λ _. says-all M w (M .frame .size) leaving (λ u. Departs (M .frame) (Related M r) s u ↔ Departs (M .frame) (Related M r) w u) (dec-leaving w) (says-leaving w h near))
-    where
-      dec-leaving : (w u : ℕ) → Dec (Departs (M .frame) (Related M r) s u ↔ Departs (M .frame) (Related M r) w u)
-      dec-leaving w u = dec-iff (dec-departs (M .frame) (Related M r) d s u) (dec-departs (M .frame) (Related M r) d w u)
-
-  next-mark : (f : Formula) × Marks M (suc r) s f
-  next-mark = (
-    both f rest,
-    (
-      (let a = before s .1 .0 in let b = depth-rest in omega arith),
-      λ w h.
-          let p = says-both M f rest w (Related M r s w) (Next M r s w) (d s w) (dec-next w) (before s .1 .1 w h) (says-rest w h) in
-          ((λ q. next-iff M r s w .1 (p .0 q)), (λ q. p .1 (next-iff M r s w .0 q))),
-    ),
-  )
-    where
-      dec-next : (w : ℕ) → Related M r s w → Dec (Next M r s w)
-      dec-next w _ =
-          Dec·and (dec-iff (dec-LOOP (M .frame) (Related M r) d s) (dec-LOOP (M .frame) (Related M r) d w))
-          (all-below (M .frame .size) (λ u. Departs (M .frame) (Related M r) s u ↔ Departs (M .frame) (Related M r) w u)
-          (λ u. dec-iff (dec-departs (M .frame) (Related M r) d s u) (dec-departs (M .frame) (Related M r) d w u)))
-
-pub mark : (M : Kripke) → WellFormed M → (r s : ℕ) → (f : Formula) × Marks M r s f
-mark M formed zero s = first-mark M formed s
-mark M formed (suc r) s = next-mark M formed r (mark M formed r) s
+pub characteristic-tells : (M : Kripke) → WellFormed M → (r : ℕ) → Tells M (Related M r) (characteristic M r)
+unfolding characteristic
+characteristic-tells M formed zero = words-tell M formed
+characteristic-tells M formed (suc r) =
+    further-tells M (Related M r) (related-equivalence M r) (characteristic M r) (characteristic-tells M formed r)
 
 -- what r rounds part, a formula nested at most r deep tells apart
 pub parted : (M : Kripke) → WellFormed M → (r s t : ℕ) → s < M .frame .size → t < M .frame .size → (Related M r s t → ⊥) →
     (f : Formula) × (depth f ≤ r) × Holds M f s × (Holds M f t → ⊥)
-parted M formed r s t h k apart =
-    let f = mark M formed r s in
-    (f .0, f .1 .0, f .1 .1 s h .1 (related-equivalence M r .own s h), λ p. apart (f .1 .1 t k .0 p))
+parted M formed r s t h k apart = (
+  characteristic M r s,
+  characteristic-depth M r s,
+  characteristic-tells M formed r s s h h .1 (related-equivalence M r .own s h),
+  (λ p. apart (characteristic-tells M formed r s t h k .0 p)),
+)

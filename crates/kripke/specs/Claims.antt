@@ -2,6 +2,7 @@
 use Prim.Native.Nat.{ℕ, suc, _+_, _<_, _≤_}
 use mathlib.Core.Path.{_≡_}
 use mathlib.Core.Logic.{_↔_}
+use Rattle.kripke.specs.Words.{SameWords}
 use Rattle.kripke.specs.Models.{Frame, Kripke, WellFormed, Total, Alike}
 use Rattle.kripke.specs.Equivalence.{Equivalence}
 use Rattle.kripke.specs.Paths.{Move, Trail, Stays}
@@ -26,7 +27,7 @@ Rounds-decided = (M : Kripke) → WellFormed M → (r s t : ℕ) → Dec (Relate
 -- states of one component are never parted
 abbrev pub Components-kept : Type 0
 Components-kept =
-    (M : Kripke) → WellFormed M → (part : ℕ → ℕ) (count : ℕ) → Components (M .frame) (Alike M) part count →
+    (M : Kripke) (part : ℕ → ℕ) (count : ℕ) → Components (M .frame) (Alike M) part count →
     (r s t : ℕ) → s < M .frame .size → t < M .frame .size → part s ≡ part t → Related M r s t
 
 -- ST of the next round is the old ST, of which what is still related is kept
@@ -42,14 +43,21 @@ Stable-stays = (M : Kripke) (q r : ℕ) → q ≤ r → Stable M q → Stable M 
 abbrev pub Rounds-settle : Type 0
 Rounds-settle = (M : Kripke) → WellFormed M → 0 < M .frame .size → (r : ℕ) × (r ≤ M .frame .size) × Settles M r
 
--- only one round does, and with h classes at first and m then, h + r is at most m + 1
+-- only one round does
 abbrev pub Settled-once : Type 0
 Settled-once = (M : Kripke) (q r : ℕ) → Settles M q → Settles M r → q ≡ r
 
+-- with h classes of C_0, and m when round r settles, h + r is at most m + 1
 abbrev pub Rounds-counted : Type 0
 Rounds-counted =
     (M : Kripke) → WellFormed M → (r h m : ℕ) (a b : ℕ → ℕ) → Settles M r →
     Numbering (Related M 0) (M .frame .size) a h → Numbering (Related M r) (M .frame .size) b m → h + r ≤ m + 1
+
+-- for each state a formula nested at most r deep holds at just the states that C_r relates to it
+abbrev pub Class-formula : Type 0
+Class-formula =
+    (M : Kripke) → WellFormed M → (r s : ℕ) → s < M .frame .size →
+    (f : Formula) × (depth f ≤ r) × ((t : ℕ) → t < M .frame .size → Holds M f t ↔ Related M r s t)
 
 -- what r rounds part, a formula nested at most r deep tells apart: it holds at the one and not at the other
 abbrev pub Parted-by-formula : Type 0
@@ -62,17 +70,29 @@ abbrev pub Stable-exact : Type 0
 Stable-exact =
     (M : Kripke) → WellFormed M → (r : ℕ) → Stable M r → (s t : ℕ) → s < M .frame .size → t < M .frame .size → Related M r s t ↔ Agree M s M t
 
--- the reduced model agrees with the opened one at each state and its class
+-- the reduced model of a settled C_r agrees with M at each state and its class
 abbrev pub Reduced-agrees : Type 0
 Reduced-agrees =
     (M : Kripke) (r m : ℕ) (c : ℕ → ℕ) (R : Kripke) → Stable M r → Numbering (Related M r) (M .frame .size) c m →
     Reduces M (Related M r) c m R → (s : ℕ) → s < M .frame .size → Agree M s R (c s)
 
--- and it is total if the opened one is, and the smallest model that can stand for it
+-- and it is total if M is, and the smallest model that can stand for M
 abbrev pub Reduced-smallest : Type 0
 Reduced-smallest =
     (M : Kripke) → WellFormed M → Total (M .frame) → (r m : ℕ) (c : ℕ → ℕ) (R : Kripke) → Stable M r →
     Numbering (Related M r) (M .frame .size) c m → Reduces M (Related M r) c m R → Smallest R M
+
+-- there is such a model, well formed, and only one
+abbrev pub Reduced-there : Type 0
+Reduced-there =
+    (M : Kripke) → WellFormed M → (r m : ℕ) (c : ℕ → ℕ) → Stable M r → Numbering (Related M r) (M .frame .size) c m →
+    (R : Kripke) × WellFormed R × Reduces M (Related M r) c m R
+
+abbrev pub Reduced-once : Type 0
+Reduced-once =
+    (M : Kripke) (r m : ℕ) (c : ℕ → ℕ) (R X : Kripke) → Numbering (Related M r) (M .frame .size) c m →
+    Reduces M (Related M r) c m R → Reduces M (Related M r) c m X →
+    (i : ℕ) → i < m → SameWords (R .labels .words i) (X .labels .words i) × (R .frame .row i ≡ X .frame .row i)
 
 -- by states with P a cycle is reached that has P throughout
 abbrev pub Lasso : Frame → (ℕ → Type 0) → ℕ → Type 0

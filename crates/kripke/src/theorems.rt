@@ -1,7 +1,7 @@
 //! What follows from the definitions, each theorem asked for by the contract of a function, which does nothing.
 ghost use Rattle.kripke.specs.Claims.{Rounds-equivalent, Rounds-refine, Rounds-decided, Components-kept, ST-narrows};
-ghost use Rattle.kripke.specs.Claims.{Stable-stays, Rounds-settle, Settled-once, Rounds-counted, Parted-by-formula, Stable-exact};
-ghost use Rattle.kripke.specs.Claims.{Reduced-agrees, Reduced-smallest, Globally-goes-on, Truth-decided};
+ghost use Rattle.kripke.specs.Claims.{Stable-stays, Rounds-settle, Settled-once, Rounds-counted, Class-formula, Parted-by-formula, Stable-exact};
+ghost use Rattle.kripke.specs.Claims.{Reduced-agrees, Reduced-smallest, Reduced-there, Reduced-once, Globally-goes-on, Truth-decided};
 ghost use Rattle.kripke.specs.Claims.{Numbers-once, Classes-once, Components-once, Classes-there, Components-there};
 
 /// C_r is an equivalence relation on the states that can be decided, and each round refines the one before.
@@ -31,9 +31,10 @@ pub fn rounds_end() -> u8
     0
 }
 
-/// What r rounds part, a formula nested at most r deep tells apart.
+/// Each class of C_r has a formula of its own, nested at most r deep; so one tells apart what r rounds part.
 pub fn parted_by_formula() -> u8
-    ensures { λ _. ⌜ Parted-by-formula ⌝ }
+    ensures class { λ _. ⌜ Class-formula ⌝ }
+    ensures parted { λ _. ⌜ Parted-by-formula ⌝ }
 {
     0
 }
@@ -45,10 +46,13 @@ pub fn settled_is_agreement() -> u8
     0
 }
 
-/// The reduced model agrees with the opened one, and is the smallest model that can stand for it.
+/// The reduced model agrees with the model that it reduces, and is the smallest that can stand for it;
+/// there is one, and no other.
 pub fn reduced_stands() -> u8
     ensures agrees { λ _. ⌜ Reduced-agrees ⌝ }
     ensures smallest { λ _. ⌜ Reduced-smallest ⌝ }
+    ensures there { λ _. ⌜ Reduced-there ⌝ }
+    ensures once { λ _. ⌜ Reduced-once ⌝ }
 {
     0
 }

@@ -3,3 +3,5 @@
 
 #[cfg(test)]
 mod kinds;
+#[cfg(test)]
+mod parts;

@@ -71,9 +71,9 @@ row-done F sound s x k h e some clear begun = (
 pub filled-more : (F : Frame) (s : ℕ) (x : Set) (rows : List Set) → s < length rows → Filled F s rows → RowIs F s x → Filled F (s + 1) (set rows s x)
 filled-more F s x rows h inv this = record {
   states =
-    below-more (λ j. RowIs F j (getD (set rows s x) j none)) s
-    (λ j l. subst (λ (y : Set). RowIs F j y) (sym (getD-set-other rows s j x none (λ e. omega arith))) (inv .states j l))
-    (subst (λ (y : Set). RowIs F s y) (sym (getD-set-same rows s x none h)) this);
+      below-more (λ j. RowIs F j (getD (set rows s x) j none)) s
+      (λ j l. subst (λ (y : Set). RowIs F j y) (sym (getD-set-other rows s j x none (λ e. omega arith))) (inv .states j l))
+      (subst (λ (y : Set). RowIs F s y) (sym (getD-set-same rows s x none h)) this);
   others = λ j l. getD-set-other rows s j x none (λ e. omega arith) ∙ inv .others j (omega arith);
 }
 

@@ -4,7 +4,7 @@ ghost use Prim.Native.Nat.{ℕ, _<_};
 ghost use lib.ListN.{length, getD};
 ghost use Rattle.kripke.specs.Models.{TotalRow};
 ghost use Rattle.std.specs.Results.{Cases};
-ghost use Rattle.survey.specs.Gaps.{Gaps, Sized, Admitted, TotalBelow, RowIs, Linked, One-gap, gap-cause, gap-place, gap-move};
+ghost use Rattle.survey.specs.Gaps.{Gaps, Sized, Admitted, TotalBelow, RowIs, Linked, One-gap};
 use gaps::Gap;
 use kripke::NOWHERE;
 use models::Model;
@@ -17,33 +17,6 @@ pub const MOST_STATES: u16 = 128;
 
 /// The states that each of 128 states moves to.
 pub type Rows = [Set; 128];
-
-/// A gap's numbers: its cause, the state that has it and the move in that state's row, each 0 where there is none.
-#[derive(Clone, Copy, Debug, PartialEq, Eq)]
-pub struct GapNumbers {
-    pub cause: u8,
-    pub place: u16,
-    pub number: u16,
-}
-
-impl Gap {
-    /// The numbers that a gap is told by.
-    pub fn numbers(self) -> GapNumbers
-        ensures { λ r. ⌜ r .cause ≡ gap-cause self ⌝ ∗ ⌜ r .place ≡ gap-place self ⌝ ∗ ⌜ r .number ≡ gap-move self ⌝ }
-    {
-        let (cause, place, number) = match self {
-            Gap::NoStates => (11, 0, 0),
-            Gap::TooMany => (12, 0, 0),
-            Gap::EmptyRow { state } => (15, state, 0),
-            Gap::Nowhere { state, number } => (14, state, number),
-        };
-        GapNumbers {
-            cause,
-            place,
-            number,
-        }
-    }
-}
 
 /// A model has one gap at most, and none if it can be worked on.
 pub fn one_gap() -> u8

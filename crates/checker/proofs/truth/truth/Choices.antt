@@ -1,6 +1,5 @@
-use mathlib.Core.Path.{_≡_}
 use Rattle.checker.proofs.Stacks.{Stacked}
 use Rattle.checker.proofs.truth.truth.Given as given
 
-abbrev pub Inv-loop-i : given.InvT-loop-i
-Inv-loop-i g l = Stacked (g .M·Model .means (l .model)) (l .steps) (l .i) (l .top) (l .stack)
+abbrev pub Inv-loop-step : given.InvT-loop-step
+Inv-loop-step g l = Stacked (g .M·Model .means (l .model)) (l .steps) (l .step-index) (l .top) (l .stack)

@@ -1,5 +1,5 @@
 use Rattle.kripke.proofs.theorems.parted_by_formula.Needs as need
-use Rattle.kripke.proofs.Claims.{parted-by-formula}
+use Rattle.kripke.proofs.Claims.{class-formula, parted-by-formula}
 
 pub returns : need.returns
-returns c = parted-by-formula
+returns c = record { class = class-formula; parted = parted-by-formula }

@@ -1,0 +1,11 @@
+pub mod Tests
+pub mod Closure
+pub mod Relating
+pub mod Truth
+pub mod Ranks
+pub mod Rows
+pub mod Reducing
+pub mod Claims
+pub mod Found
+pub mod Files
+pub mod Cases

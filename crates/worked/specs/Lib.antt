@@ -1,0 +1,4 @@
+pub mod Tables
+pub mod Decisions
+pub mod Claims
+pub mod Cases
