@@ -20,8 +20,6 @@ use survey::rows_of;
 mod reading;
 mod spread;
 pub mod steps;
-#[cfg(test)]
-mod tests;
 mod truth;
 
 pub impl From<Gap> for Refused as RefusedFromGap {

@@ -2,6 +2,8 @@
 //! here and not beside the code.
 
 #[cfg(test)]
+mod checks;
+#[cfg(test)]
 mod kinds;
 #[cfg(test)]
 mod parts;
