@@ -4,6 +4,7 @@ use mathlib.Core.Logic.{_⊎_, inl, inr, ⊎-elim, _↔_}
 use Prim.Native.Nat.{ℕ, zero, suc, _+_, _*_, _-_, _/_, _%_, _^_, _<_, _≤_, min, max}
 use native.Mathlib.Omega.{arith}
 use lib.Bits.{bitAnd, bitOr, or-step, and-step, or-add-and}
+use lib.Count.{trailingZeros, under}
 use Rattle.std.proofs.shelf.Tests.{cases-eq, cases-lt}
 use Rattle.std.proofs.shelf.Bits.{or-shr, and-shr, shl-shr, pow-add, pow-pos, pow-below, div-below, shr-shr, and-le-r}
 use Rattle.sets.specs.Sets.{bit}
@@ -136,3 +137,103 @@ high-out w x k fits past h =
   where
     pow-up : (i j : ℕ) → i ≤ j → 2 ^ i ≤ 2 ^ j
     pow-up i j l = ⊎-elim (λ lt. omega (arith, pow-below i j lt)) (λ ge. let e : i ≡ j = omega arith in omega (arith, ap (λ n. 2 ^ n) e)) (cases-lt i j)
+
+-- the lowest bit of a number that is not 0, and the number without it
+pub record Lowest (w x k : ℕ) : Type 0 where
+  pub small : k < w
+  pub has : On x k
+  pub least : (j : ℕ) → j < k → On x j → ⊥
+  pub others : (j : ℕ) → (On x j × On (x - 1) j) ↔ (On x j × (j ≡ k → ⊥))
+
+low-odd : (x : ℕ) → On x 0 ↔ (x % 2 ≡ 1)
+low-odd x = ((λ h. omega arith), (λ h. omega arith))
+
+half-of : (w : ℕ) → 2 ^ suc w ≡ 2 ^ w * 2
+half-of w = ap (λ n. 2 ^ n) (add-one-is w) ∙ pow-add 2 w 1
+
+-- of an odd number
+lowest-odd : (w x : ℕ) → x % 2 ≡ 1 → Lowest (suc w) x 0
+lowest-odd w x odd = record {
+  small = omega arith;
+  has = low-odd x .1 odd;
+  least = λ j l. absurd (omega arith);
+  others = λ j. (
+    λ p. (p .0, λ e. let z = low-odd (x - 1) .0 (subst (λ (i : ℕ). On (x - 1) i) e (p .1)) in omega arith),
+    λ p. (p .0, up j (p .0) (p .1)),
+  );
+}
+  where
+    up : (j : ℕ) → On x j → (j ≡ 0 → ⊥) → On (x - 1) j
+    up zero h n = absurd (n refl)
+    up (suc j) h n =
+        let same : (x - 1) / 2 ≡ x / 2 = omega arith in
+        bit-half (x - 1) j ∙ ap (λ y. bit y j) same ∙ sym (bit-half x j) ∙ h
+
+-- of an even number, from its half
+lowest-even : (w x k : ℕ) → x % 2 ≡ 0 → 0 < x → Lowest w (x / 2) k → Lowest (suc w) x (suc k)
+lowest-even w x k even some L = record {
+  small = let s = L .small in omega arith;
+  has = bit-half x k ∙ L .has;
+  least = under;
+  others = λ j. (
+    λ p. (p .0, λ e. away j (p .0) (p .1) e),
+    λ p. (p .0, up j (p .0) (p .1)),
+  );
+}
+  where
+    half-less : (x - 1) / 2 ≡ x / 2 - 1
+    half-less = omega arith
+
+    below-half : (j : ℕ) → On (x - 1) (suc j) → On (x / 2 - 1) j
+    below-half j h = ap (λ y. bit y j) (sym half-less) ∙ sym (bit-half (x - 1) j) ∙ h
+
+    above-half : (j : ℕ) → On (x / 2 - 1) j → On (x - 1) (suc j)
+    above-half j h = bit-half (x - 1) j ∙ ap (λ y. bit y j) half-less ∙ h
+
+    under : (j : ℕ) → j < suc k → On x j → ⊥
+    under zero l h = let z = low-odd x .0 h in omega arith
+    under (suc j) l h = L .least j (omega arith) (sym (bit-half x j) ∙ h)
+
+    away : (j : ℕ) → On x j → On (x - 1) j → j ≡ suc k → ⊥
+    away zero h g e = omega arith
+    away (suc j) h g e = L .others j .0 (sym (bit-half x j) ∙ h, below-half j g) .1 (omega arith)
+
+    up : (j : ℕ) → On x j → (j ≡ suc k → ⊥) → On (x - 1) j
+    up zero h n = let z = low-odd x .0 h in absurd (omega arith)
+    up (suc j) h n = above-half j (L .others j .1 (sym (bit-half x j) ∙ h, λ e. n (ap suc e)) .1)
+
+lowest-by : (w x d t : ℕ) → 0 < x → x % 2 ≡ d → (x % 2 ≡ 0 → Lowest w (x / 2) t) → Lowest (suc w) x (under d t)
+lowest-by w x zero t some e half = lowest-even w x t e some (half e)
+lowest-by w x (suc d) t some e half = lowest-odd w x (omega arith)
+
+pub lowest : (w x : ℕ) → 0 < x → x < 2 ^ w → Lowest w x (trailingZeros w x)
+unfolding trailingZeros
+lowest zero x some fits = absurd (omega arith)
+lowest (suc w) x some fits =
+    lowest-by w x (x % 2) (trailingZeros w (x / 2)) some refl (λ even. lowest w (x / 2) (omega arith) (let p = half-of w in omega arith))
+
+-- the bits of one less than a power of 2
+pub below-bits : (n j : ℕ) → On (2 ^ n - 1) j ↔ (j < n)
+below-bits n j = (
+  λ h. ⊎-elim (λ l. l) (λ past. absurd (high-out n (2 ^ n - 1) j (omega (arith, pow-pos n)) past h)) (cases-lt j n),
+  λ l.
+      let e : 2 ^ n - 1 - 0 ≡ 2 ^ n - 1 = omega arith in
+      subst (λ (x : ℕ). On x j) e (in-not n 0 j l (pow-pos n) .1 (none-in j)),
+)
+
+-- two numbers of w bits with the same bits are equal
+pub same-bits : (w x y : ℕ) → x < 2 ^ w → y < 2 ^ w → ((j : ℕ) → j < w → On x j ↔ On y j) → x ≡ y
+same-bits zero x y fx fy same = omega arith
+same-bits (suc w) x y fx fy same =
+    let p = half-of w in
+    let low : On x 0 ↔ On y 0 = same 0 (omega arith) in
+    let halves : x / 2 ≡ y / 2 = same-bits w (x / 2) (y / 2) (omega arith) (omega arith) (λ j l.
+        let s = same (suc j) (omega arith) in (
+          (λ h. sym (bit-half y j) ∙ s .0 (bit-half x j ∙ h)),
+          (λ h. sym (bit-half x j) ∙ s .1 (bit-half y j ∙ h)),
+        )) in
+    let odd : x % 2 ≡ y % 2 = ⊎-elim
+        (λ e. let h = low-odd y .0 (low .0 (low-odd x .1 e)) in omega arith)
+        (λ n. ⊎-elim (λ e. let h = low-odd x .0 (low .1 (low-odd y .1 e)) in omega arith) (λ m. omega arith) (cases-eq (y % 2) 1))
+        (cases-eq (x % 2) 1) in
+    omega arith

@@ -27,7 +27,7 @@ pub fn one_gap() -> u8
 
 /// The number of states, where there are some and not too many.
 pub fn count_states<M: Model>(m: &M) -> Result<u16, Gap>
-    ensures { λ r. ⌜ Cases r (λ n. (n ≡ M·Model .means (now (m .entry)) .frame .size) × Sized (M·Model .means (now (m .entry)) .frame)) (Gaps (M·Model .means (now (m .entry)) .frame)) ⌝ }
+    ensures { λ r. ⌜ Cases r (λ n. (n ≡ M·Model .means (now (m .entry)) .frame .size) × Sized (M·Model .means (now (m .entry)) .frame)) (λ gap. Gaps (M·Model .means (now (m .entry)) .frame) gap × (Sized (M·Model .means (now (m .entry)) .frame) → ⊥)) ⌝ }
 {
     let n = m.size();
     if n == 0 {

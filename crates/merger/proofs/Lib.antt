@@ -1,0 +1,14 @@
+pub mod Blank
+pub mod Gathering
+pub mod Looking
+pub mod Placing
+pub mod Advancing
+pub mod Moving
+pub mod Tying
+pub mod Closing
+pub mod Speaking
+pub mod Starting
+pub mod Rounding
+pub mod Promising
+pub mod Calling
+pub mod Drawing
