@@ -2,11 +2,17 @@
 use checker::steps::Step;
 
 const T: Step = Step::True;
+
 const P: Step = Step::Word(0);
+
 const Q: Step = Step::Word(1);
+
 const NOT: Step = Step::Not;
+
 const OR: Step = Step::Or;
+
 const EU: Step = Step::Until;
+
 const EG: Step = Step::Globally;
 
 /// How many there are.

@@ -153,7 +153,11 @@ impl Plain {
 
     /// ST, NEXT and LOOP of each state, by a relation.
     pub fn views(&self, heap: Global, relation: &Relation) -> Result<Views, AllocError> {
-        let mut views = Views { st: Vec::new(heap), next: Vec::new(heap), loops: Vec::new(heap) };
+        let mut views = Views {
+            st: Vec::new(heap),
+            next: Vec::new(heap),
+            loops: Vec::new(heap),
+        };
         for s in 0..self.size() {
             let st = self.reached(heap, s, row_of(relation, s))?;
             views.next.push(self.exits(heap, st.as_slice())?)?;
@@ -214,7 +218,9 @@ impl Views {
 
     // Whether two states are still together after this round.
     fn agree(&self, relation: &Relation, s: usize, t: usize) -> bool {
-        has(self.loops.as_slice(), s) == has(self.loops.as_slice(), t) && self.matched(relation, s, t) && self.matched(relation, t, s)
+        has(self.loops.as_slice(), s) == has(self.loops.as_slice(), t)
+            && self.matched(relation, s, t)
+            && self.matched(relation, t, s)
     }
 }
 
@@ -247,4 +253,59 @@ pub fn same(one: &Relation, two: &Relation) -> bool {
         }
     }
     true
+}
+
+impl Plain {
+    /// The reduced model by a settled relation: the words of each class's first member, a move to each other class in the
+    /// members' NEXT, and to itself where LOOP is yes, targets rising.
+    pub fn merged(&self, heap: Global, relation: &Relation) -> Result<Plain, AllocError> {
+        let views = self.views(heap, relation)?;
+        let (numbers, count) = numbered(heap, relation)?;
+        let mut model = Plain {
+            labels: Vec::new(heap),
+            rows: Vec::new(heap),
+        };
+        for class in 0..count {
+            let mut row = Vec::new(heap);
+            for into in 0..count {
+                if views.leads(numbers.as_slice(), class, into) {
+                    row.push(into)?;
+                }
+            }
+            model
+                .labels
+                .push(self.label(first_of(numbers.as_slice(), class)))?;
+            model.rows.push(row)?;
+        }
+        Ok(model)
+    }
+}
+
+impl Views {
+    // Whether a member of a class has a state of another class in its NEXT; for the class itself, whether its LOOP is yes.
+    fn leads(&self, numbers: &[u16], class: u16, into: u16) -> bool {
+        for (s, own) in numbers.iter().enumerate() {
+            if *own == class {
+                if class == into && has(self.loops.as_slice(), s) {
+                    return true;
+                }
+                for (t, other) in numbers.iter().enumerate() {
+                    if class != into && *other == into && relates(&self.next, s, t) {
+                        return true;
+                    }
+                }
+            }
+        }
+        false
+    }
+}
+
+// The first state with a class.
+fn first_of(numbers: &[u16], class: u16) -> usize {
+    for (s, own) in numbers.iter().enumerate() {
+        if *own == class {
+            return s;
+        }
+    }
+    0
 }

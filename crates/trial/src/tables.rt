@@ -16,7 +16,11 @@ pub struct Tables {
 impl Tables {
     /// The tables that have a plain model's labels and rows.
     pub fn of(heap: Global, model: &Plain) -> Result<Tables, AllocError> {
-        let mut tables = Tables { labels: Vec::new(heap), offsets: Vec::new(heap), targets: Vec::new(heap) };
+        let mut tables = Tables {
+            labels: Vec::new(heap),
+            offsets: Vec::new(heap),
+            targets: Vec::new(heap),
+        };
         let mut end: u32 = 0;
         tables.offsets.push(end)?;
         for s in 0..model.size() {
@@ -33,7 +37,11 @@ impl Tables {
 
     /// The listed model.
     pub fn listed(&self) -> Listed<'_, Facts> {
-        Listed { labels: self.labels.as_slice(), offsets: self.offsets.as_slice(), targets: self.targets.as_slice() }
+        Listed {
+            labels: self.labels.as_slice(),
+            offsets: self.offsets.as_slice(),
+            targets: self.targets.as_slice(),
+        }
     }
 }
 
@@ -72,7 +80,10 @@ pub fn small_model(heap: Global, size: usize, index: u32) -> Result<Plain, Alloc
         _ => 7,
     };
     let mut rest = index;
-    let mut model = Plain { labels: Vec::new(heap), rows: Vec::new(heap) };
+    let mut model = Plain {
+        labels: Vec::new(heap),
+        rows: Vec::new(heap),
+    };
     for _s in 0..size {
         model.labels.push(u64::from(rest % 2))?;
         rest /= 2;
@@ -100,8 +111,17 @@ fn subset(heap: Global, size: usize, bits: u32) -> Result<Vec<u16>, AllocError> 
 }
 
 /// A total model of `size` states with words below `words`, where a row has each state once in `sparse` and at least one.
-pub fn any_model(heap: Global, dice: &mut Dice, size: u16, words: u64, sparse: u64) -> Result<Plain, AllocError> {
-    let mut model = Plain { labels: Vec::new(heap), rows: Vec::new(heap) };
+pub fn any_model(
+    heap: Global,
+    dice: &mut Dice,
+    size: u16,
+    words: u64,
+    sparse: u64,
+) -> Result<Plain, AllocError> {
+    let mut model = Plain {
+        labels: Vec::new(heap),
+        rows: Vec::new(heap),
+    };
     for _s in 0..size {
         model.labels.push(dice.below(words))?;
         let sure = dice.below(size as u64);
