@@ -1,6 +1,6 @@
 //! What the programs share: a file on standard input, tables for any model file, and the fault line.
-use modelfile::faults::FaultNumbers;
 use modelfile::LONGEST;
+use modelfile::faults::FaultNumbers;
 use models::facts::Facts;
 use std::alloc::AllocError;
 use std::alloc::Global;

@@ -31,9 +31,18 @@ fn loaded(file: &[u8]) -> Result<(u16, usize), FileFault> {
 
 #[test]
 fn first_faults() -> Result<(), Fail> {
-    check_eq(loaded(&[]), Err(FileFault::InNumber(NumberFault::CutShortAt(0))))?;
-    check_eq(loaded(&[2, 0, 0x80]), Err(FileFault::InNumber(NumberFault::CutShortAt(3))))?;
-    check_eq(loaded(&[0x80, 0]), Err(FileFault::InNumber(NumberFault::NotFewestAt(0))))?;
+    check_eq(
+        loaded(&[]),
+        Err(FileFault::InNumber(NumberFault::CutShortAt(0))),
+    )?;
+    check_eq(
+        loaded(&[2, 0, 0x80]),
+        Err(FileFault::InNumber(NumberFault::CutShortAt(3))),
+    )?;
+    check_eq(
+        loaded(&[0x80, 0]),
+        Err(FileFault::InNumber(NumberFault::NotFewestAt(0))),
+    )?;
     check_eq(loaded(&[0]), Err(FileFault::OutOfRange(0)))?;
     check_eq(loaded(&[0x81, 0x20]), Err(FileFault::OutOfRange(0)))?;
     check_eq(loaded(&[2, 0, 0, 3]), Err(FileFault::OutOfRange(3)))?;
@@ -41,10 +50,19 @@ fn first_faults() -> Result<(), Fail> {
     check_eq(loaded(&[2, 0, 0, 2, 1, 1]), Err(FileFault::NotRising(5)))?;
     check_eq(loaded(&[6]), Err(FileFault::TableShort(0)))?;
     check_eq(loaded(&[7]), Err(FileFault::TableShort(0)))?;
-    check_eq(loaded(&[2, 0, 0, 2, 0, 1, 2, 0, 1]), Err(FileFault::TableShort(8)))?;
+    check_eq(
+        loaded(&[2, 0, 0, 2, 0, 1, 2, 0, 1]),
+        Err(FileFault::TableShort(8)),
+    )?;
     // at one number the range and the rise come before the tables
-    check_eq(loaded(&[2, 0, 0, 2, 0, 1, 2, 1, 2]), Err(FileFault::OutOfRange(8)))?;
-    check_eq(loaded(&[2, 0, 0, 2, 0, 1, 2, 1, 1]), Err(FileFault::NotRising(8)))?;
+    check_eq(
+        loaded(&[2, 0, 0, 2, 0, 1, 2, 1, 2]),
+        Err(FileFault::OutOfRange(8)),
+    )?;
+    check_eq(
+        loaded(&[2, 0, 0, 2, 0, 1, 2, 1, 1]),
+        Err(FileFault::NotRising(8)),
+    )?;
     check_eq(loaded(&[1, 0, 1, 0, 9]), Err(FileFault::LeftOver(4)))?;
     check_eq(loaded(&[1, 0, 1, 0]), Ok((1, 1)))
 }
@@ -87,7 +105,13 @@ fn longest_file(rt: LibcRuntime) -> Result<(), Fail> {
     let mut offsets = vec![in heap; 0; 4097]?;
     let mut at = write_number(4096, &mut file, 0).ok_or("room")?;
     for s in 0..4096u64 {
-        let bits = if s < 2730 { u64::MAX } else if s == 2730 { 1 << 21 } else { 0 };
+        let bits = if s < 2730 {
+            u64::MAX
+        } else if s == 2730 {
+            1 << 21
+        } else {
+            0
+        };
         at = write_number(bits, &mut file, at).ok_or("room")?;
     }
     check_eq(at, LONGEST - 4096)?;

@@ -43,8 +43,10 @@ module _ (F : Found) (S : Rounds) (B : Bounded F S) (wanted : Set)
   pub like-together : (rows : List Set) → Outlooks rows (S .reach) (F .moves) (S .class) (F .components) wanted →
       (j k : ℕ) → j < F .components → k < F .components → Like rows (S .class) j k ↔ Together F S j k
   like-together rows tells j k h l = ⊎-elim
-      (λ e. ((λ p. (p .0, λ c. subst (λ i. Outlook (S .reach) (F .moves) (S .class) (F .components) j c ↔ Outlook (S .reach) (F .moves) (S .class) (F .components) i c) e (λ o. o, λ o. o))),
-        (λ p. (p .0, λ c. subst (λ i. In (set-at rows j) c ↔ In (set-at rows i) c) e (λ o. o, λ o. o)))))
+      (λ e. (
+        (λ p. (p .0, λ c. subst (λ i. Outlook (S .reach) (F .moves) (S .class) (F .components) j c ↔ Outlook (S .reach) (F .moves) (S .class) (F .components) i c) e (λ o. o, λ o. o))),
+        (λ p. (p .0, λ c. subst (λ i. In (set-at rows j) c ↔ In (set-at rows i) c) e (λ o. o, λ o. o))),
+      ))
       (λ other. (
         (λ p.
             let a = wanted-two k j l h (λ e. other (sym e)) (sym (p .0)) in

@@ -60,8 +60,7 @@ module _ (reach : List Set) (mid : ℕ) (group : Set) where
     passed-on x room on joined = record {
       inside = λ j h. P .inside j (S .others j .0 h .0);
       each = λ j l. after-set none reach′ k x room
-          (λ j z. In z l ↔ (In (set-at reach j) l ⊎ (In group j × (In rest j → ⊥) × In (set-at reach j) mid × In (set-at reach mid) l)))
-          (
+          (λ j z. In z l ↔ (In (set-at reach j) l ⊎ (In group j × (In rest j → ⊥) × In (set-at reach j) mid × In (set-at reach mid) l))) (
             (λ h. ⊎-elim (λ o. inl (was l o)) (λ o. inr (P .inside k (S .has), (λ r. S .others k .0 r .1 refl), was mid on, o)) (joined l .0 h)),
             (λ h. joined l .1 (⊎-elim (λ o. inl (P .each k l .1 (inl o))) (λ p. inr (p .3)) h)),
           )
@@ -73,7 +72,7 @@ module _ (reach : List Set) (mid : ℕ) (group : Set) where
       inside = λ j h. P .inside j (S .others j .0 h .0);
       each = λ j l. ⊎-elim
           (λ e. subst (λ j. In (set-at reach′ j) l ↔ (In (set-at reach j) l ⊎ (In group j × (In rest j → ⊥) × In (set-at reach j) mid × In (set-at reach mid) l))) (sym e)
-              ((λ h. inl (was l h)), (λ h. ⊎-elim (λ o. P .each k l .1 (inl o)) (λ p. absurd (off (P .each k mid .1 (inl (p .2))))) h)))
+          ((λ h. inl (was l h)), (λ h. ⊎-elim (λ o. P .each k l .1 (inl o)) (λ p. absurd (off (P .each k mid .1 (inl (p .2))))) h)))
           (λ n. others j l n)
           (cases-eq j k);
     }

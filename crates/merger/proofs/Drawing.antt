@@ -62,12 +62,16 @@ module _ (F : Found) (S : Rounds) (rows : List Set) where
         facts-long = length-set facts n (at (F .facts) k) ∙ lf;
         moves-long = length-set moves n (set-at rows k) ∙ lm;
         taken = λ c l. ⊎-elim
-            (λ same. (k, h, e ∙ sym same,
+            (λ same. (
+              k,
+              h,
+              e ∙ sym same,
               ap (at (set facts n (at (F .facts) k))) same ∙ getD-set-same facts n (at (F .facts) k) 0 (omega arith),
-              ap (set-at (set moves n (set-at rows k))) same ∙ getD-set-same moves n (set-at rows k) none (omega arith)))
+              ap (set-at (set moves n (set-at rows k))) same ∙ getD-set-same moves n (set-at rows k) none (omega arith),
+            ))
             (λ other.
-                let p = K .taken c (omega arith) in
-                (p .0, p .1, p .2, getD-set-other facts n c (at (F .facts) k) 0 other ∙ p .3, getD-set-other moves n c (set-at rows k) none other ∙ p .4))
+            let p = K .taken c (omega arith) in
+            (p .0, p .1, p .2, getD-set-other facts n c (at (F .facts) k) 0 other ∙ p .3, getD-set-other moves n c (set-at rows k) none other ∙ p .4))
             (cases-eq c n);
         blank-facts = λ c l. getD-set-other facts n c (at (F .facts) k) 0 (omega arith) ∙ K .blank-facts c (omega arith);
         blank-moves = λ c l. getD-set-other moves n c (set-at rows k) none (omega arith) ∙ K .blank-moves c (omega arith);
@@ -170,7 +174,7 @@ module _ (M : Kripke) (r : ℕ) (F : Found) (S : Rounds) (A : Tabled M r F S) (e
           (λ p. out-next M (O .formed) (part F) (F .components) (O .components) r (at (S .class)) (A .classes .same) (On (S .reach)) (A .reach)
               (λ k. In (set-at (F .moves) k)) (O .moves) s j (v .0) (λ e. other (e ∙ v .1)) (w .0 p)),
           (λ q. w .1 (subst (Outlook (S .reach) (F .moves) (S .class) (F .components) (part F s)) (q .2)
-            (next-out M (O .formed) (part F) (F .components) (O .components) r (at (S .class)) (A .classes .same) (On (S .reach)) (A .reach)
+              (next-out M (O .formed) (part F) (F .components) (O .components) r (at (S .class)) (A .classes .same) (On (S .reach)) (A .reach)
               (λ k. In (set-at (F .moves) k)) (O .moves) s (q .0) (v .0) (q .1)))),
         );
     turns = λ i h.
@@ -181,7 +185,7 @@ module _ (M : Kripke) (r : ℕ) (F : Found) (S : Rounds) (A : Tabled M r F S) (e
               (λ k. In (set-at (F .moves) k)) (O .moves) s (v .0)
               (subst (Outlook (S .reach) (F .moves) (S .class) (F .components) (part F s)) (sym (v .1)) (w .0 p))),
           (λ l. w .1 (subst (Outlook (S .reach) (F .moves) (S .class) (F .components) (part F s)) (v .1)
-            (loop-out M (O .formed) (part F) (F .components) (O .components) r (at (S .class)) (A .classes .same) (On (S .reach)) (A .reach)
+              (loop-out M (O .formed) (part F) (F .components) (O .components) r (at (S .class)) (A .classes .same) (On (S .reach)) (A .reach)
               (λ k. In (set-at (F .moves) k)) (O .moves) s (v .0) l))),
         );
     rising = λ i h. let n = D .states in filled-rising (x .states) (x .moves) i (omega arith);

@@ -85,15 +85,15 @@ module _ (row : List ℕ) (gone : Set) where
       Cleared row row′ gone left → Splits left k rest → Cleared row (set row′ k 0) gone rest
   cleared-more row′ left k rest inside room C S l = ⊎-elim
       (λ same.
-          let zero-there : at (set row′ k 0) l ≡ 0 = ap (at (set row′ k 0)) same ∙ getD-set-same row′ k 0 0 room in (
-            (λ e. absurd (omega arith)),
-            (λ p. absurd (S .others l .0 (p .1 (inside l (subst (λ i. In left i) (sym same) (S .has)))) .1 same)),
-          ))
+      let zero-there : at (set row′ k 0) l ≡ 0 = ap (at (set row′ k 0)) same ∙ getD-set-same row′ k 0 0 room in (
+        (λ e. absurd (omega arith)),
+        (λ p. absurd (S .others l .0 (p .1 (inside l (subst (λ i. In left i) (sym same) (S .has)))) .1 same)),
+      ))
       (λ other.
-          let as-was : at (set row′ k 0) l ≡ at row′ l = getD-set-other row′ k l 0 0 other in (
-            (λ e. let p = C l .0 (sym as-was ∙ e) in (p .0, λ h. S .others l .1 (p .1 h, other))),
-            (λ p. as-was ∙ C l .1 (p .0, λ h. S .others l .0 (p .1 h) .0)),
-          ))
+      let as-was : at (set row′ k 0) l ≡ at row′ l = getD-set-other row′ k l 0 0 other in (
+        (λ e. let p = C l .0 (sym as-was ∙ e) in (p .0, λ h. S .others l .1 (p .1 h, other))),
+        (λ p. as-was ∙ C l .1 (p .0, λ h. S .others l .0 (p .1 h) .0)),
+      ))
       (cases-eq l k)
 
   pub cleared-all : (row′ : List ℕ) (left : Set) → ((l : ℕ) → In left l → ⊥) → Cleared row row′ gone left → Kept row row′ gone
@@ -116,8 +116,8 @@ module _ (reach : List (List ℕ)) (Stays : ℕ → ℕ → Type 0) where
   cut-more reach′ n row room C kept = record {
     done = λ k l h. ⊎-elim
         (λ same. subst (λ i. On (set reach′ n row) i l ↔ (On reach i l × Stays i l)) (sym same)
-            (subst (λ r. (at r l ≡ 1) ↔ (On reach n l × Stays n l)) (sym (getD-set-same reach′ n row [] room))
-              (subst (λ r. (at row l ≡ 1) ↔ ((at r l ≡ 1) × Stays n l)) (C .rest n (omega arith)) (kept l))))
+        (subst (λ r. (at r l ≡ 1) ↔ (On reach n l × Stays n l)) (sym (getD-set-same reach′ n row [] room))
+        (subst (λ r. (at row l ≡ 1) ↔ ((at r l ≡ 1) × Stays n l)) (C .rest n (omega arith)) (kept l))))
         (λ other. subst (λ r. (at r l ≡ 1) ↔ (On reach k l × Stays k l)) (sym (getD-set-other reach′ n k row [] other)) (C .done k l (omega arith)))
         (cases-eq k n);
     rest = λ k h. getD-set-other reach′ n k row [] (omega arith) ∙ C .rest k (omega arith);

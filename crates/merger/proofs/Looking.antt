@@ -31,12 +31,12 @@ module _ (class : List ℕ) (leaving : Set) where
     sound = λ c h. ⊎-elim (λ was. L .sound c was) (λ e. (to, L .inside to (S .has), sym (e .0))) (with′ c .0 h);
     whole = λ l h. ⊎-elim
         (λ in-left. ⊎-elim
-            (λ in-group. inr (with′ (at class l) .1 (inr (same l in-group, low))))
-            (λ out. ⊎-elim
-                (λ e. inr (with′ (at class l) .1 (inr (ap (at class) e, low))))
-                (λ other. inl (minus l .1 (S .others l .1 (in-left, other), out)))
-                (cases-eq l to))
-            (in-dec (group .bits) l))
+        (λ in-group. inr (with′ (at class l) .1 (inr (same l in-group, low))))
+        (λ out. ⊎-elim
+        (λ e. inr (with′ (at class l) .1 (inr (ap (at class) e, low))))
+        (λ other. inl (minus l .1 (S .others l .1 (in-left, other), out)))
+        (cases-eq l to))
+        (in-dec (group .bits) l))
         (λ seen. inr (with′ (at class l) .1 (inl seen)))
         (L .whole l h);
     inside = λ l h. L .inside l (S .others l .0 (minus l .0 h .0) .0);
@@ -92,9 +92,9 @@ module _ (P : ℕ → Set → Type 0) (wanted : Set) where
   along-more left k rest x table room A S p j h = ⊎-elim
       (λ same. inr (subst (λ i. P i (set-at (set table k x) i)) (sym same) (subst (P k) (sym (getD-set-same table k x none room)) p)))
       (λ other. ⊎-elim
-          (λ in-left. inl (S .others j .1 (in-left, other)))
-          (λ done. inr (subst (P j) (sym (getD-set-other table k j x none other)) done))
-          (A j h))
+      (λ in-left. inl (S .others j .1 (in-left, other)))
+      (λ done. inr (subst (P j) (sym (getD-set-other table k j x none other)) done))
+      (A j h))
       (cases-eq j k)
 
   pub along-all : (left : Set) (table : List Set) → ((l : ℕ) → In left l → ⊥) → Along P wanted left table → (k : ℕ) → In wanted k → P k (set-at table k)

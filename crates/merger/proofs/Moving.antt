@@ -57,7 +57,7 @@ module _ (M : Kripke) (formed : WellFormed M) (part : ℕ → ℕ) (count : ℕ)
         let pu = near s u (trail-first (M .frame) (ST (M .frame) C s) (l .1) u x (l .2 .3)) in
         let on : ST (M .frame) (Alike M) x u = (1, (u, alike s x x px px, m, (refl, alike s x u px pu))) in
         let back : ST (M .frame) (Alike M) u x =
-            (l .1, trail-map (M .frame) (ST (M .frame) C s) (Alike M u) (λ w _ f. alike s u w pu (near s w f)) (l .1) u x (m .2) (l .2 .3)) in
+        (l .1, trail-map (M .frame) (ST (M .frame) C s) (Alike M u) (λ w _ f. alike s u w pu (near s w f)) (l .1) u x (m .2) (l .2 .3)) in
         let e : part x ≡ part u = numbered .same x u (m .1) (m .2) .1 (on, back) in
         let k = part-below x (m .1) in
         (part x, k, reach s x h (m .1) .1 (l .2 .1), (part x, step (part x) (part x) k .1 (x, u, m, refl, sym e), inr refl, sym (same s x h (m .1) .1 px)))
@@ -67,10 +67,17 @@ module _ (M : Kripke) (formed : WellFormed M) (part : ℕ → ℕ) (count : ℕ)
         let u : ℕ = x .0 in
         let m : Move (M .frame) u v = x .3 in
         let k = part-below u (m .1) in
-        let here = same s u h (m .1) .1 (near s u (x .2)) in
-        (part u, k, reach s u h (m .1) .1 (x .2),
-          (part v, step (part u) (part v) k .1 (u, v, m, refl, refl),
-            inl (λ e. x .1 (further s u v (x .2) m (same s v h (m .2) .0 (here ∙ sym e)))), refl))
+        let here = same s u h (m .1) .1 (near s u (x .2)) in (
+          part u,
+          k,
+          reach s u h (m .1) .1 (x .2),
+          (
+            part v,
+            step (part u) (part v) k .1 (u, v, m, refl, refl),
+            inl (λ e. x .1 (further s u v (x .2) m (same s v h (m .2) .0 (here ∙ sym e)))),
+            refl,
+          ),
+        )
 
     -- where the way out begins: a move from what s reaches
     record Begins (s from to : ℕ) : Type 0 where
@@ -106,9 +113,17 @@ module _ (M : Kripke) (formed : WellFormed M) (part : ℕ → ℕ) (count : ℕ)
               let e : part v ≡ part u = b .ends ∙ stays ∙ sym (b .starts) in
               let back = part-st r v u (m .2) (m .1) e in
               let cv = related-equivalence M r .join s u v cu (near u v (part-st r u v (m .1) (m .2) (sym e))) in
-              let wv = further s u v (b .reached) m cv in
-              (u, back .0, (v, b .reached, m, trail-st (M .frame) C s (back .0) v u wv
-                (trail-map (M .frame) (C v) (C s) (λ w _ f. related-equivalence M r .join s v w cv f) (back .0) v u (m .2) (back .1))))
+              let wv = further s u v (b .reached) m cv in (
+                u,
+                back .0,
+                (
+                  v,
+                  b .reached,
+                  m,
+                  trail-st (M .frame) C s (back .0) v u wv
+                      (trail-map (M .frame) (C v) (C s) (λ w _ f. related-equivalence M r .join s v w cv f) (back .0) v u (m .2) (back .1)),
+                ),
+              )
         ]
 
     pub out-next : (s c : ℕ) → s < M .frame .size → (c ≡ class (part s) → ⊥) → Out s c → (v : ℕ) × NEXT (M .frame) C s v × (class (part v) ≡ c)
@@ -133,7 +148,7 @@ module _ (M : Kripke) (formed : WellFormed M) (part : ℕ → ℕ) (count : ℕ)
     match s t h k one f u x =
         let b = x .3 .2 in
         let away : class (part u) ≡ class (part t) → ⊥ =
-            λ e. x .1 (further s (x .0) u (x .2) (x .3) (same s u h b .0 (one ∙ sym e))) in
+        λ e. x .1 (further s (x .0) u (x .2) (x .3) (same s u h b .0 (one ∙ sym e))) in
         let y = out-next t (class (part u)) k away (f (class (part u)) (next-out s u h x)) in
         (y .0, y .1, same u (y .0) b (y .1 .3 .2) .0 (sym (y .2)))
 
@@ -144,8 +159,13 @@ module _ (M : Kripke) (formed : WellFormed M) (part : ℕ → ℕ) (count : ℕ)
       (λ e.
           let one = same s t h k .1 (e .0) in
           (one, λ c. (over s t h k e one c, over t s k h (related-equivalence M (suc r) .turn s t e) (sym one) c))),
-      (λ p. (same s t h k .0 (p .0),
-        ((λ l. out-loop t k (subst (Out t) (p .0) (p .1 (class (part s)) .0 (loop-out s h l)))),
-          (λ l. out-loop s h (subst (Out s) (sym (p .0)) (p .1 (class (part t)) .1 (loop-out t k l))))),
-        match s t h k (p .0) (λ c. p .1 c .0), match t s k h (sym (p .0)) (λ c. p .1 c .1))),
+      (λ p. (
+        same s t h k .0 (p .0),
+        (
+          (λ l. out-loop t k (subst (Out t) (p .0) (p .1 (class (part s)) .0 (loop-out s h l)))),
+          (λ l. out-loop s h (subst (Out s) (sym (p .0)) (p .1 (class (part t)) .1 (loop-out t k l)))),
+        ),
+        match s t h k (p .0) (λ c. p .1 c .0),
+        match t s k h (sym (p .0)) (λ c. p .1 c .1),
+      )),
     )

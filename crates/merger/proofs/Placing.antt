@@ -80,11 +80,11 @@ module _ (rows : List Set) (class : List ℕ) where
           heads-sound = λ c i h. let p = P .heads-sound c i h in (omega (arith, p .0), p .1);
           heads-whole = λ i l. ⊎-elim
               (λ e. subst (λ i. (h : ℕ) × In (set-at heads (at class i)) h × (at (set new k (at new j)) h ≡ at (set new k (at new j)) i)) (sym e)
-                  (j, head, kept (at new j) j (s .0) ∙ sym (here (at new j))))
+              (j, head, kept (at new j) j (s .0) ∙ sym (here (at new j))))
               (λ other.
-                  let p = P .heads-whole i (omega arith) in
-                  let q = P .heads-sound (at class i) (p .0) (p .1) in
-                  (p .0, p .1, kept (at new j) (p .0) (q .0) ∙ p .2 ∙ sym (kept (at new j) i (omega arith))))
+              let p = P .heads-whole i (omega arith) in
+              let q = P .heads-sound (at class i) (p .0) (p .1) in
+              (p .0, p .1, kept (at new j) (p .0) (q .0) ∙ p .2 ∙ sym (kept (at new j) i (omega arith))))
               (cases-eq i k);
           few = omega arith;
         }
@@ -101,34 +101,35 @@ module _ (rows : List Set) (class : List ℕ) where
           numbers = number-new (Like rows class) like-turn like-join k classes (like-own k) (at new) (at (set new k classes)) (P .numbers)
               (kept classes)
               (λ j l q.
-                  let p = P .heads-whole j l in
-                  let s = P .heads-sound (at class j) (p .0) (p .1) in
-                  let near = P .numbers .same (p .0) j (s .0) l .0 (p .2) in
-                  apart (p .0) (subst (λ c. In (set-at heads c) (p .0)) (q .0) (p .1)) (like-join (p .0) j k near q .1))
+              let p = P .heads-whole j l in
+              let s = P .heads-sound (at class j) (p .0) (p .1) in
+              let near = P .numbers .same (p .0) j (s .0) l .0 (p .2) in
+              apart (p .0) (subst (λ c. In (set-at heads c) (p .0)) (q .0) (p .1)) (like-join (p .0) j k near q .1))
               (here classes);
           groups = joined classes x (omega arith) with′;
           heads-sound = λ c i h. ⊎-elim
               (λ same. ⊎-elim
-                  (λ was. let p = P .heads-sound (at class k) i was in (omega (arith, p .0), p .1 ∙ sym same))
-                  (λ e. (omega (arith, e .0), ap (at class) (e .0) ∙ sym same))
-                  (heads′ i .0 (subst (λ z. In z i) (ap (set-at (set heads (at class k) y)) same ∙ getD-set-same heads (at class k) y none tall) h)))
+              (λ was. let p = P .heads-sound (at class k) i was in (omega (arith, p .0), p .1 ∙ sym same))
+              (λ e. (omega (arith, e .0), ap (at class) (e .0) ∙ sym same))
+              (heads′ i .0 (subst (λ z. In z i) (ap (set-at (set heads (at class k) y)) same ∙ getD-set-same heads (at class k) y none tall) h)))
               (λ other.
-                  let p = P .heads-sound c i (subst (λ z. In z i) (getD-set-other heads (at class k) c y none other) h) in
-                  (omega (arith, p .0), p .1))
+              let p = P .heads-sound c i (subst (λ z. In z i) (getD-set-other heads (at class k) c y none other) h) in
+              (omega (arith, p .0), p .1))
               (cases-eq c (at class k));
           heads-whole = λ i l. ⊎-elim
               (λ e. subst (λ i. (h : ℕ) × In (set-at (set heads (at class k) y) (at class i)) h × (at (set new k classes) h ≡ at (set new k classes) i)) (sym e)
-                  (k, subst (λ z. In z k) (sym (getD-set-same heads (at class k) y none tall)) (heads′ k .1 (inr (refl, low))), refl))
+              (k, subst (λ z. In z k) (sym (getD-set-same heads (at class k) y none tall)) (heads′ k .1 (inr (refl, low))), refl))
               (λ other.
-                  let p = P .heads-whole i (omega arith) in
-                  let q = P .heads-sound (at class i) (p .0) (p .1) in
-                  (p .0,
-                    ⊎-elim
+              let p = P .heads-whole i (omega arith) in
+              let q = P .heads-sound (at class i) (p .0) (p .1) in (
+                p .0,
+                ⊎-elim
                     (λ same. subst (λ z. In z (p .0)) (sym (ap (set-at (set heads (at class k) y)) same ∙ getD-set-same heads (at class k) y none tall))
-                        (heads′ (p .0) .1 (inl (subst (λ c. In (set-at heads c) (p .0)) same (p .1)))))
+                    (heads′ (p .0) .1 (inl (subst (λ c. In (set-at heads c) (p .0)) same (p .1)))))
                     (λ differ. subst (λ z. In z (p .0)) (sym (getD-set-other heads (at class k) (at class i) y none differ)) (p .1))
                     (cases-eq (at class i) (at class k)),
-                    kept classes (p .0) (q .0) ∙ p .2 ∙ sym (kept classes i (omega arith))))
+                kept classes (p .0) (q .0) ∙ p .2 ∙ sym (kept classes i (omega arith)),
+              ))
               (cases-eq i k);
           few = omega arith;
         }

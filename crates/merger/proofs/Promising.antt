@@ -96,8 +96,8 @@ module _ (M : Kripke) (r k budget : ℕ) (F : Found) (S : Rounds) (F′ : Found)
       ⊎-elim
       (λ p. (z .0, z .2, omega (arith, p .1), omega (arith, p .1)))
       (λ p.
-          let full : k < budget → ⊥ = λ l. both (up l) (p .0) in
-          (z .0, z .2, omega (arith, p .1), omega (arith, p .1)))
+      let full : k < budget → ⊥ = λ l. both (up l) (p .0) in
+      (z .0, z .2, omega (arith, p .1), omega (arith, p .1)))
       (stands-at M (r + k) (z .0) F′ S′ B (z .2))
     where
       both : {b : Bool} → b ≡ true → b ≡ false → ⊥

@@ -97,7 +97,7 @@ module _ (M : Kripke) (r : ℕ) (F : Found) (S : Rounds) (A : Tabled M r F S) wh
     same s t h k =
         let a = V .classes .same (part F s) (part F t) (below s h) (below t k) in
         let b = round-parts M (O .formed) (part F) (F .components) (O .components) r (at (S .class)) (A .classes .same)
-              (On (S .reach)) (A .reach) (λ k. In (set-at (F .moves) k)) (O .moves) s t h k in
+        (On (S .reach)) (A .reach) (λ k. In (set-at (F .moves) k)) (O .moves) s t h k in
         ((λ e. b .1 (a .0 e)), (λ p. a .1 (b .0 p)))
 
     numbers : Numbering (Related M (suc r)) (M .frame .size) (class-of F S′) (S′ .classes)

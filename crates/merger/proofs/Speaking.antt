@@ -12,7 +12,7 @@ use Rattle.std.proofs.shelf.Lists.{getD-set-same, getD-set-other, length-set}
 use Rattle.kripke.specs.Words.{Words, SameWords}
 use Rattle.kripke.specs.Models.{Kripke, words-at}
 use Rattle.sets.specs.declared.Set.{Set}
-use Rattle.sets.specs.Sets.{In, none} 
+use Rattle.sets.specs.Sets.{In, none}
 use Rattle.sets.specs.Sets.{bit as digit}
 use Rattle.merger.specs.Grids.{at, set-at, Same, Like}
 use Rattle.merger.specs.Tables.{words-of}
@@ -33,11 +33,15 @@ module _ (M : Kripke) (component facts : List ℕ) (seen n : ℕ) (H : Heard M c
       record {
         long = length-set facts seen bits ∙ l;
         each = λ k h. ⊎-elim
-            (λ same. (n, omega arith, e ∙ sym same,
-              λ a. ap (λ x. words-of x a) (ap (at (set facts seen bits)) same ∙ getD-set-same facts seen bits 0 (omega arith)) ∙ words a))
+            (λ same. (
+              n,
+              omega arith,
+              e ∙ sym same,
+              λ a. ap (λ x. words-of x a) (ap (at (set facts seen bits)) same ∙ getD-set-same facts seen bits 0 (omega arith)) ∙ words a,
+            ))
             (λ other.
-                let p = H .each k (omega arith) in
-                (p .0, omega (arith, p .1), p .2, λ a. ap (λ x. words-of x a) (getD-set-other facts seen k bits 0 other) ∙ p .3 a))
+            let p = H .each k (omega arith) in
+            (p .0, omega (arith, p .1), p .2, λ a. ap (λ x. words-of x a) (getD-set-other facts seen k bits 0 other) ∙ p .3 a))
             (cases-eq k seen);
         all = λ s h. ⊎-elim
             (λ same. let z = ap (at component) same ∙ e in omega arith)
@@ -53,12 +57,12 @@ module _ (M : Kripke) (component facts : List ℕ) (seen n : ℕ) (H : Heard M c
     each = λ k h. let p = H .each k h in (p .0, omega (arith, p .1), p .2, p .3);
     all = λ s h. ⊎-elim
         (λ same. ⊎-elim
-            (λ less. subst (λ i. at component i < seen) (sym same) less)
-            (λ more.
-                let t = order n seen (omega arith) (omega (arith, other)) in
-                let b = H .all (t .0) (t .1) in
-                absurd (omega (arith, t .2)))
-            (cases-lt (at component n) seen))
+        (λ less. subst (λ i. at component i < seen) (sym same) less)
+        (λ more.
+        let t = order n seen (omega arith) (omega (arith, other)) in
+        let b = H .all (t .0) (t .1) in
+        absurd (omega (arith, t .2)))
+        (cases-lt (at component n) seen))
         (λ before. H .all s (omega arith))
         (cases-eq s n);
     few = let f = H .few in omega arith;

@@ -89,9 +89,12 @@ module _ (M : Kripke) (F : Found) (S : Rounds) (O : Surveyed M F) (B : Started F
   st-way s (suc n) u t h k p =
       let v : ℕ = p .0 in
       let m : Move (M .frame) u v = p .2 in
-      let e = sym (same s u h k .1 (p .1)) ∙ same s v h (m .2) .1 (trail-first (M .frame) (Alike M s) n v t (p .3)) in
-      (part F v, below u k, (below u k, below v (m .2), e, inr (O .moves (part F u) (part F v) (below u k) .1 (u, v, m, refl, refl))),
-        st-way s n v t h (m .2) (p .3))
+      let e = sym (same s u h k .1 (p .1)) ∙ same s v h (m .2) .1 (trail-first (M .frame) (Alike M s) n v t (p .3)) in (
+        part F v,
+        below u k,
+        (below u k, below v (m .2), e, inr (O .moves (part F u) (part F v) (below u k) .1 (u, v, m, refl, refl))),
+        st-way s n v t h (m .2) (p .3),
+      )
 
   numbers : Numbering (Related M 0) (M .frame .size) (class-of F S) (S .classes)
   numbers = record {

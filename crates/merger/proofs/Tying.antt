@@ -27,11 +27,10 @@ module _ (rows : List Set) (component : List ℕ) (members targets : List Set) (
       ((i : ℕ) → In y i ↔ (In (set-at targets (at component n)) i ⊎ In (set-at rows n) i)) →
       Tied rows component (set members (at component n) x) (set targets (at component n) y) (n + 1)
   tied-more x y low wide tall with′ joined = record {
-    states = λ k s. after-set none members (at component n) x wide (λ k z. In z s ↔ ((s < n + 1) × (at component s ≡ k)))
-        (
-          (λ h. ⊎-elim (λ was. let p = T .states (at component n) s .0 was in (omega (arith, p .0), p .1)) (λ e. (omega (arith, e .0), ap (at component) (e .0))) (with′ s .0 h)),
-          (λ p. with′ s .1 (⊎-elim (λ e. inr (e, low)) (λ other. inl (T .states (at component n) s .1 (omega (arith, p .0, other), p .1))) (cases-eq s n))),
-        )
+    states = λ k s. after-set none members (at component n) x wide (λ k z. In z s ↔ ((s < n + 1) × (at component s ≡ k))) (
+      (λ h. ⊎-elim (λ was. let p = T .states (at component n) s .0 was in (omega (arith, p .0), p .1)) (λ e. (omega (arith, e .0), ap (at component) (e .0))) (with′ s .0 h)),
+      (λ p. with′ s .1 (⊎-elim (λ e. inr (e, low)) (λ other. inl (T .states (at component n) s .1 (omega (arith, p .0, other), p .1))) (cases-eq s n))),
+    )
         (λ k other. (
           (λ h. let p = T .states k s .0 h in (omega (arith, p .0), p .1)),
           (λ p. ⊎-elim
@@ -39,17 +38,16 @@ module _ (rows : List Set) (component : List ℕ) (members targets : List Set) (
               (λ before. T .states k s .1 (omega (arith, p .0, before), p .1))
               (cases-eq s n)),
         )) k;
-    moves = λ k t. after-set none targets (at component n) y tall (λ k z. In z t ↔ ((s : ℕ) × (s < n + 1) × (at component s ≡ k) × In (set-at rows s) t))
-        (
-          (λ h. ⊎-elim
-              (λ was. let p = T .moves (at component n) t .0 was in (p .0, omega (arith, p .1), p .2, p .3))
-              (λ new. (n, omega arith, refl, new))
-              (joined t .0 h)),
-          (λ p. joined t .1 (⊎-elim
-              (λ e. inr (subst (λ i. In (set-at rows i) t) e (p .3)))
-              (λ other. inl (T .moves (at component n) t .1 (p .0, omega (arith, p .1, other), p .2, p .3)))
-              (cases-eq (p .0) n))),
-        )
+    moves = λ k t. after-set none targets (at component n) y tall (λ k z. In z t ↔ ((s : ℕ) × (s < n + 1) × (at component s ≡ k) × In (set-at rows s) t)) (
+      (λ h. ⊎-elim
+          (λ was. let p = T .moves (at component n) t .0 was in (p .0, omega (arith, p .1), p .2, p .3))
+          (λ new. (n, omega arith, refl, new))
+          (joined t .0 h)),
+      (λ p. joined t .1 (⊎-elim
+          (λ e. inr (subst (λ i. In (set-at rows i) t) e (p .3)))
+          (λ other. inl (T .moves (at component n) t .1 (p .0, omega (arith, p .1, other), p .2, p .3)))
+          (cases-eq (p .0) n))),
+    )
         (λ k other. (
           (λ h. let p = T .moves k t .0 h in (p .0, omega (arith, p .1), p .2, p .3)),
           (λ p. ⊎-elim

@@ -14,9 +14,22 @@ pub(crate) fn advance(found: &Found, rounds: &mut Rounds)
     ensures { λ _. ⌜ Advanced (now (found .entry)) (now (rounds .entry)) (now (rounds .exit)) ⌝ }
 {
     let wanted = shared(&rounds.members, rounds.classes);
-    let rows = outlooks(&rounds.reach, &found.moves, &rounds.class, &rounds.members, wanted, found.components);
+    let rows = outlooks(
+        &rounds.reach,
+        &found.moves,
+        &rounds.class,
+        &rounds.members,
+        wanted,
+        found.components,
+    );
     let parting = part(&rows, &rounds.class, found.components);
-    narrow(&mut rounds.reach, &rounds.class, &rounds.members, &parting, found.components);
+    narrow(
+        &mut rounds.reach,
+        &rounds.class,
+        &rounds.members,
+        &parting,
+        found.components,
+    );
     let Parting {
         class,
         members,

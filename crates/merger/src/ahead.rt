@@ -43,7 +43,13 @@ fn ahead(moves: Set, class: &[u8; 128], members: &[Set; 128], from: usize, count
 }
 
 // For each component in `wanted`, the classes one move ahead of it.
-fn look_ahead(moves: &[Set; 128], class: &[u8; 128], members: &[Set; 128], wanted: Set, count: usize) -> [Set; 128]
+fn look_ahead(
+    moves: &[Set; 128],
+    class: &[u8; 128],
+    members: &[Set; 128],
+    wanted: Set,
+    count: usize,
+) -> [Set; 128]
     requires few { ⌜ count ≤ 128 ⌝ }
     requires groups { ⌜ Groups (now members) (now class) count ⌝ }
     requires wanted { ⌜ ((k : ℕ) → In wanted k → k < count) ⌝ }
@@ -60,7 +66,14 @@ fn look_ahead(moves: &[Set; 128], class: &[u8; 128], members: &[Set; 128], wante
 }
 
 // For each component in `wanted`, the classes one move ahead of what it reaches. What is reached from there is wanted too.
-pub(crate) fn outlooks(reach: &[[u8; 128]; 128], moves: &[Set; 128], class: &[u8; 128], members: &[Set; 128], wanted: Set, count: usize) -> [Set; 128]
+pub(crate) fn outlooks(
+    reach: &[[u8; 128]; 128],
+    moves: &[Set; 128],
+    class: &[u8; 128],
+    members: &[Set; 128],
+    wanted: Set,
+    count: usize,
+) -> [Set; 128]
     requires few { ⌜ count ≤ 128 ⌝ }
     requires groups { ⌜ Groups (now members) (now class) count ⌝ }
     requires wanted { ⌜ ((k : ℕ) → In wanted k → k < count) ⌝ }

@@ -32,7 +32,12 @@ fn tie(rows: &[Set; 128], component: &[u8; 128], states: usize) -> Ties
 }
 
 // For each component, the components that its states move to.
-pub(crate) fn moves_between(rows: &[Set; 128], component: &[u8; 128], states: usize, count: usize) -> [Set; 128]
+pub(crate) fn moves_between(
+    rows: &[Set; 128],
+    component: &[u8; 128],
+    states: usize,
+    count: usize,
+) -> [Set; 128]
     requires few { ⌜ states ≤ 128 ⌝ ∗ ⌜ count ≤ 128 ⌝ }
     requires low { ⌜ ((s : ℕ) → s < states → at (now component) s < 128) ⌝ }
     requires inside { ⌜ ((s t : ℕ) → s < states → In (set-at (now rows) s) t → t < states) ⌝ }

@@ -61,7 +61,12 @@ impl Analysis {
     }
 
     /// Opens a model, in place of what was opened before. The memory lent for walk records and state numbers is free afterwards.
-    pub fn open<M: Model>(&mut self, model: &M, walks: &mut [Walk], states: &mut [u16]) -> Result<Opened, OpenRefusal>
+    pub fn open<M: Model>(
+        &mut self,
+        model: &M,
+        walks: &mut [Walk],
+        states: &mut [u16],
+    ) -> Result<Opened, OpenRefusal>
         ensures { λ answer. ⌜ OpenAnswer (M·Model .means (now (model .entry))) (now (self .entry)) (now (self .exit)) (now (walks .entry)) (now (walks .exit)) (now (states .entry)) (now (states .exit)) answer ⌝ }
     {
         let size = count_states(model)? as usize;
@@ -159,7 +164,14 @@ impl Analysis {
             return Err(Refusal::NotSettled);
         }
         let count = self.found.components;
-        let rows = outlooks(&self.rounds.reach, &self.found.moves, &self.rounds.class, &self.rounds.members, Set::below(count), count);
+        let rows = outlooks(
+            &self.rounds.reach,
+            &self.found.moves,
+            &self.rounds.class,
+            &self.rounds.members,
+            Set::below(count),
+            count,
+        );
         *out = reduce(&self.found, &self.rounds, &rows);
         Ok(())
     }

@@ -42,7 +42,12 @@ fn pass(reach: &mut [Set; 128], mid: usize, group: Set)
 }
 
 // For each component, what it reaches by moves inside its class, itself included.
-pub(crate) fn close(moves: &[Set; 128], class: &[u8; 128], members: &[Set; 128], count: usize) -> [Set; 128]
+pub(crate) fn close(
+    moves: &[Set; 128],
+    class: &[u8; 128],
+    members: &[Set; 128],
+    count: usize,
+) -> [Set; 128]
     requires few { ⌜ count ≤ 128 ⌝ }
     requires groups { ⌜ Groups (now members) (now class) count ⌝ }
     ensures { λ r. ⌜ ((k l : ℕ) → k < count → In (set-at r k) l ↔ ((n : ℕ) × Trail (Inner (now (moves .entry)) (now (class .entry)) count) (λ j. j < count) n k l)) ⌝ }

@@ -21,7 +21,13 @@ use models::Model;
 use sets::Set;
 
 // Finds the components of a model, with their words and the moves between them.
-pub(crate) fn look_over<M: Model>(found: &mut Found, model: &M, rows: &[Set; 128], walks: &mut [Walk], states: &mut [u16])
+pub(crate) fn look_over<M: Model>(
+    found: &mut Found,
+    model: &M,
+    rows: &[Set; 128],
+    walks: &mut [Walk],
+    states: &mut [u16],
+)
     requires admitted { ⌜ Admitted (M·Model .means (now model) .frame) ⌝ }
     requires linked { ⌜ Linked (M·Model .means (now model) .frame) (now rows) ⌝ }
     requires rooms { ⌜ M·Model .means (now model) .frame .size ≤ length (now walks) ⌝ ∗ ⌜ M·Model .means (now model) .frame .size ≤ length (now states) ⌝ }

@@ -76,7 +76,13 @@ pub(crate) fn clear(row: &mut [u8; 128], gone: Set)
 }
 
 // Clears the pairs of components that were parted.
-pub(crate) fn narrow(reach: &mut [[u8; 128]; 128], class: &[u8; 128], members: &[Set; 128], parting: &Parting, count: usize)
+pub(crate) fn narrow(
+    reach: &mut [[u8; 128]; 128],
+    class: &[u8; 128],
+    members: &[Set; 128],
+    parting: &Parting,
+    count: usize,
+)
     requires few { ⌜ count ≤ 128 ⌝ }
     requires old { ⌜ ((k : ℕ) → k < count → at (now class) k < 128) ⌝ }
     requires new { ⌜ ((k : ℕ) → k < count → at (now parting .class) k < 128) ⌝ }

@@ -43,7 +43,13 @@ fn fill_row(file: &[u8], from: usize, targets: &mut [u16], begin: usize) -> (usi
 }
 
 /// Fills the fronts of the offsets and of the targets with the rows that stand from `from` on, one for each state.
-pub(crate) fn fill_rows(file: &[u8], from: usize, states: u16, offsets: &mut [u32], targets: &mut [u16])
+pub(crate) fn fill_rows(
+    file: &[u8],
+    from: usize,
+    states: u16,
+    offsets: &mut [u32],
+    targets: &mut [u16],
+)
     requires { ⌜ RowsFit (now file) from states (length (now offsets)) (length (now targets)) ⌝ }
     ensures { λ _. ⌜ ((rows : List (List ℕ)) (next : ℕ) → length rows ≡ states → Sequence (now (file .entry)) from (joined counted rows) next → (now (offsets .exit) ≡ placed (now (offsets .entry)) 0 (offsets-of rows)) × (now (targets .exit) ≡ placed (now (targets .entry)) 0 (targets-of rows))) ⌝ }
 {

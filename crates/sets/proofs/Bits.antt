@@ -228,12 +228,12 @@ same-bits (suc w) x y fx fy same =
     let p = half-of w in
     let low : On x 0 ↔ On y 0 = same 0 (omega arith) in
     let halves : x / 2 ≡ y / 2 = same-bits w (x / 2) (y / 2) (omega arith) (omega arith) (λ j l.
-        let s = same (suc j) (omega arith) in (
-          (λ h. sym (bit-half y j) ∙ s .0 (bit-half x j ∙ h)),
-          (λ h. sym (bit-half x j) ∙ s .1 (bit-half y j ∙ h)),
-        )) in
+    let s = same (suc j) (omega arith) in (
+      (λ h. sym (bit-half y j) ∙ s .0 (bit-half x j ∙ h)),
+      (λ h. sym (bit-half x j) ∙ s .1 (bit-half y j ∙ h)),
+    )) in
     let odd : x % 2 ≡ y % 2 = ⊎-elim
-        (λ e. let h = low-odd y .0 (low .0 (low-odd x .1 e)) in omega arith)
-        (λ n. ⊎-elim (λ e. let h = low-odd x .0 (low .1 (low-odd y .1 e)) in omega arith) (λ m. omega arith) (cases-eq (y % 2) 1))
-        (cases-eq (x % 2) 1) in
+    (λ e. let h = low-odd y .0 (low .0 (low-odd x .1 e)) in omega arith)
+    (λ n. ⊎-elim (λ e. let h = low-odd x .0 (low .1 (low-odd y .1 e)) in omega arith) (λ m. omega arith) (cases-eq (y % 2) 1))
+    (cases-eq (x % 2) 1) in
     omega arith

@@ -44,18 +44,18 @@ kept-first : (p q : ℕ → Bool) (k n a : ℕ) → a ≤ k → k < a + n → p 
 kept-first p q k zero a low high here gone before others = absurd (omega arith)
 kept-first p q k (suc n) a low high here gone before others = ⊎-elim
     (λ e.
-        let pa : p a ≡ true = ap p e ∙ here in
-        let qa : q a ≡ false = ap q e ∙ gone in
-        cond-true (p a) (a ∷ kept-by p (counting (a + 1) n)) (kept-by p (counting (a + 1) n)) pa
-        ∙ ap (λ x. x ∷ kept-by p (counting (a + 1) n)) e
-        ∙ ap (λ r. k ∷ r) (kept-same p q n (a + 1) (λ j l. sym (others j (omega arith))))
-        ∙ ap (λ r. k ∷ r) (sym (cond-false (q a) (a ∷ kept-by q (counting (a + 1) n)) (kept-by q (counting (a + 1) n)) qa)))
+    let pa : p a ≡ true = ap p e ∙ here in
+    let qa : q a ≡ false = ap q e ∙ gone in
+    cond-true (p a) (a ∷ kept-by p (counting (a + 1) n)) (kept-by p (counting (a + 1) n)) pa
+    ∙ ap (λ x. x ∷ kept-by p (counting (a + 1) n)) e
+    ∙ ap (λ r. k ∷ r) (kept-same p q n (a + 1) (λ j l. sym (others j (omega arith))))
+    ∙ ap (λ r. k ∷ r) (sym (cond-false (q a) (a ∷ kept-by q (counting (a + 1) n)) (kept-by q (counting (a + 1) n)) qa)))
     (λ other.
-        let pa : p a ≡ false = before a (omega arith) in
-        let qa : q a ≡ false = others a other ∙ pa in
-        cond-false (p a) (a ∷ kept-by p (counting (a + 1) n)) (kept-by p (counting (a + 1) n)) pa
-        ∙ kept-first p q k n (a + 1) (omega arith) (omega arith) here gone before others
-        ∙ ap (λ r. k ∷ r) (sym (cond-false (q a) (a ∷ kept-by q (counting (a + 1) n)) (kept-by q (counting (a + 1) n)) qa)))
+    let pa : p a ≡ false = before a (omega arith) in
+    let qa : q a ≡ false = others a other ∙ pa in
+    cond-false (p a) (a ∷ kept-by p (counting (a + 1) n)) (kept-by p (counting (a + 1) n)) pa
+    ∙ kept-first p q k n (a + 1) (omega arith) (omega arith) here gone before others
+    ∙ ap (λ r. k ∷ r) (sym (cond-false (q a) (a ∷ kept-by q (counting (a + 1) n)) (kept-by q (counting (a + 1) n)) qa)))
     (cases-eq a k)
 
 kept-none : (p : ℕ → Bool) (n a : ℕ) → ((j : ℕ) → p j ≡ false) → kept-by p (counting a n) ≡ []
@@ -76,9 +76,9 @@ members-split x k rest S = kept-first (λ j. eqb (bit (x .bits) j) 1) (λ j. eqb
     (ne-eqb (bit (rest .bits) k) 1 (λ h. S .others k .0 h .1 refl))
     (λ j l. ne-eqb (bit (x .bits) j) 1 (S .least j l))
     (λ j other. ⊎-elim
-        (λ h. eq-eqb (bit (rest .bits) j) 1 (S .others j .1 (h, other)) ∙ sym (eq-eqb (bit (x .bits) j) 1 h))
-        (λ h. ne-eqb (bit (rest .bits) j) 1 (λ r. h (S .others j .0 r .0)) ∙ sym (ne-eqb (bit (x .bits) j) 1 h))
-        (cases-eq (bit (x .bits) j) 1))
+    (λ h. eq-eqb (bit (rest .bits) j) 1 (S .others j .1 (h, other)) ∙ sym (eq-eqb (bit (x .bits) j) 1 h))
+    (λ h. ne-eqb (bit (rest .bits) j) 1 (λ r. h (S .others j .0 r .0)) ∙ sym (ne-eqb (bit (x .bits) j) 1 h))
+    (cases-eq (bit (x .bits) j) 1))
 
 -- what is left of a list, one further
 pub drop-next : (xs : List ℕ) (i y : ℕ) (ys : List ℕ) → drop i xs ≡ y ∷ ys → drop (i + 1) xs ≡ ys

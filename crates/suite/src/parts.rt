@@ -20,17 +20,51 @@ const B: Facts = Facts { bits: 1 };
 fn components_of_four_states() -> Result<(), Fail> {
     for (labels, offsets, targets, parts, cyclic) in [
         // a move to itself, and no moves
-        ([A; 4], [0, 1, 1, 1, 1], [0; 5], [0, 1, 2, 3], [true, false, false, false]),
+        (
+            [A; 4],
+            [0, 1, 1, 1, 1],
+            [0; 5],
+            [0, 1, 2, 3],
+            [true, false, false, false],
+        ),
         // two interleaved cycles
-        ([A; 4], [0, 1, 2, 3, 4], [2, 3, 0, 1, 0], [0, 1, 0, 1], [true, true, false, false]),
+        (
+            [A; 4],
+            [0, 1, 2, 3, 4],
+            [2, 3, 0, 1, 0],
+            [0, 1, 0, 1],
+            [true, true, false, false],
+        ),
         // a chain, of which the walk closes the last state first
-        ([A; 4], [0, 1, 2, 3, 4], [1, 2, 3, 3, 0], [0, 1, 2, 3], [false, false, false, true]),
+        (
+            [A; 4],
+            [0, 1, 2, 3, 4],
+            [1, 2, 3, 3, 0],
+            [0, 1, 2, 3],
+            [false, false, false, true],
+        ),
         // a cycle through states that are not alike is in no component, and a move that leaves is no move to itself
-        ([A, B, A, A], [0, 1, 2, 4, 5], [1, 2, 0, 9, 3], [0, 1, 2, 3], [false, false, false, true]),
+        (
+            [A, B, A, A],
+            [0, 1, 2, 4, 5],
+            [1, 2, 0, 9, 3],
+            [0, 1, 2, 3],
+            [false, false, false, true],
+        ),
         // two cycles with a state in common, and a state that leads to them
-        ([A; 4], [0, 1, 2, 4, 5], [2, 2, 0, 3, 2], [0, 1, 0, 0], [true, false, false, false]),
+        (
+            [A; 4],
+            [0, 1, 2, 4, 5],
+            [2, 2, 0, 3, 2],
+            [0, 1, 0, 0],
+            [true, false, false, false],
+        ),
     ] {
-        let model = Listed { labels: &labels, offsets: &offsets, targets: &targets };
+        let model = Listed {
+            labels: &labels,
+            offsets: &offsets,
+            targets: &targets,
+        };
         let mut part = [200; 128];
         let found = find_components(&model, &mut [Walk::BLANK; 4], &mut [0; 4], &mut part)?;
         check_eq(&part[0..4], &parts[0..4])?;
@@ -38,7 +72,10 @@ fn components_of_four_states() -> Result<(), Fail> {
         for i in 0..4 {
             check_eq(found.cyclic.has(i), cyclic[i])?;
         }
-        check_eq(found.count, parts[0].max(parts[1]).max(parts[2]).max(parts[3]) + 1)?;
+        check_eq(
+            found.count,
+            parts[0].max(parts[1]).max(parts[2]).max(parts[3]) + 1,
+        )?;
     }
     Ok(())
 }
@@ -50,7 +87,11 @@ fn parts_of_ring(heap: Global, back: u16) -> Result<([u8; 128], u8), Fail> {
     let offsets: Vec<u32> = (0..129u32).collect(heap)?;
     let mut targets: Vec<u16> = (1..128u16).collect(heap)?;
     targets.push(back)?;
-    let model = Listed { labels: &labels, offsets: offsets.as_slice(), targets: targets.as_slice() };
+    let model = Listed {
+        labels: &labels,
+        offsets: offsets.as_slice(),
+        targets: targets.as_slice(),
+    };
     let mut part = [200; 128];
     let found = find_components(&model, &mut [Walk::BLANK; 128], &mut [0; 128], &mut part)?;
     Ok((part, found.count))
@@ -74,11 +115,20 @@ fn refusal(n: usize, walks: usize, states: usize) -> Result<Option<Refused>, Fai
     check(n <= 129 && walks <= 129 && states <= 129)?;
     let labels = [A; 129];
     let offsets = [0; 130];
-    let model = Listed { labels: &labels[0..n], offsets: &offsets[0..n + 1], targets: &[] };
+    let model = Listed {
+        labels: &labels[0..n],
+        offsets: &offsets[0..n + 1],
+        targets: &[],
+    };
     let mut walk_memory = [Walk::BLANK; 129];
     let mut state_memory = [7; 129];
     let mut part = [200; 128];
-    match find_components(&model, &mut walk_memory[0..walks], &mut state_memory[0..states], &mut part) {
+    match find_components(
+        &model,
+        &mut walk_memory[0..walks],
+        &mut state_memory[0..states],
+        &mut part,
+    ) {
         Ok(_) => Ok(None),
         Err(why) => {
             check_eq((state_memory[0], part[0]), (7, 200))?;

@@ -30,7 +30,7 @@ loop-k-again c =
       length-set (c .loop-k .table) _ _ ∙ long,
       (λ k h. i .1 k (S .others k .0 h .0)),
       along-more (λ k x. (d : ℕ) → In x d ↔ Ahead (In (set-at (c .args .moves .now) k)) (at (c .args .class .now)) k d) (c .args .wanted)
-      (c .loop-k .left) (c .in-Some .k) (c .in-Some .rest) (c .ahead .result) (c .loop-k .table) (omega arith) (i .2) S (c .ahead .ensures),
+          (c .loop-k .left) (c .in-Some .k) (c .in-Some .rest) (c .ahead .result) (c .loop-k .table) (omega arith) (i .2) S (c .ahead .ensures),
     )
 
 pub returns : need.returns

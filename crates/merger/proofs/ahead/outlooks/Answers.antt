@@ -30,9 +30,9 @@ loop-k-again c =
       length-set (c .loop-k .rows) _ _ ∙ long,
       (λ k h. i .1 k (S .others k .0 h .0)),
       along-more (λ k x. (d : ℕ) → In x d ↔ Outlook reach moves class count k d) (c .args .wanted)
-      (c .loop-k .left) k (c .in-Some .rest) (c .union .result) (c .loop-k .rows) (omega arith) (i .2) S
-      (outlook-from reach moves (c .look-ahead-ahead .result) class count (c .args .wanted) (c .union .result) k (i .1 k (S .has)) (c .pre .closed)
-        (c .look-ahead-ahead .ensures) (c .union .ensures)),
+          (c .loop-k .left) k (c .in-Some .rest) (c .union .result) (c .loop-k .rows) (omega arith) (i .2) S
+          (outlook-from reach moves (c .look-ahead-ahead .result) class count (c .args .wanted) (c .union .result) k (i .1 k (S .has)) (c .pre .closed)
+          (c .look-ahead-ahead .ensures) (c .union .ensures)),
     )
 
 pub returns : need.returns

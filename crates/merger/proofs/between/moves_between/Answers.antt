@@ -19,7 +19,7 @@ loop-k-again c =
     let few = c .pre .few .1 in (
       length-set (c .loop-k .moves) _ _ ∙ long,
       filled-more none (λ k (x : Set). (j : ℕ) → In x j ↔ ((t : ℕ) × In (set-at (c .tie-ties .result .targets) k) t × (at (c .args .component .now) t ≡ j)))
-      (c .loop-k .moves) (c .loop-k .k) (c .numbers-of .result) (omega arith) (i .1) (c .numbers-of .ensures),
+          (c .loop-k .moves) (c .loop-k .k) (c .numbers-of .result) (omega arith) (i .1) (c .numbers-of .ensures),
     )
 
 pub returns : need.returns

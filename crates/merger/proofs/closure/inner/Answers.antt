@@ -20,8 +20,8 @@ loop-k-again c =
     let few = c .pre .few in (
       length-set (c .loop-k .table) _ _ ∙ long,
       filled-more none (λ k (x : Set). (j : ℕ) → In x j ↔ Inner (c .args .moves .now) (c .args .class .now) (c .args .count) k j)
-      (c .loop-k .table) (c .loop-k .k) (c .with .result) (omega arith) (i .1)
-      (inner-row _ _ _ (c .args .count) (c .loop-k .k) (c .and .result) (c .with .result) (c .pre .groups) (c .loop-k-test .taken) few (c .and .ensures) (c .with .ensures)),
+          (c .loop-k .table) (c .loop-k .k) (c .with .result) (omega arith) (i .1)
+          (inner-row _ _ _ (c .args .count) (c .loop-k .k) (c .and .result) (c .with .result) (c .pre .groups) (c .loop-k-test .taken) few (c .and .ensures) (c .with .ensures)),
     )
 
 pub returns : need.returns

@@ -25,7 +25,7 @@ loop-k-again-then-has c =
     let small = S .small in (
       length-set (c .loop-k .reach) _ _ ∙ long,
       passed-on _ _ _ (c .loop-k .reach) (c .loop-k .left) (c .in-Some .k) (c .in-Some .rest) (i .1) S (c .or .result) (omega arith)
-      (c .has .ensures .0 (c .if-has .taken)) (c .or .ensures .means),
+          (c .has .ensures .0 (c .if-has .taken)) (c .or .ensures .means),
     )
 
 pub loop-k-less : need.loop-k-less
@@ -34,9 +34,11 @@ loop-k-less c = c .in-Some .ensures tt .falls
 pub loop-k-again : need.loop-k-again
 loop-k-again c =
     let i = c .loop-k .inv in
-    let S = c .in-Some .ensures tt in
-    (i .0, passed-off _ _ _ (c .loop-k .reach) (c .loop-k .left) (c .in-Some .k) (c .in-Some .rest) (i .1) S
-      (λ h. both-ways (c .has .result) (c .if-has .left) (c .has .ensures .1 h)))
+    let S = c .in-Some .ensures tt in (
+      i .0,
+      passed-off _ _ _ (c .loop-k .reach) (c .loop-k .left) (c .in-Some .k) (c .in-Some .rest) (i .1) S
+          (λ h. both-ways (c .has .result) (c .if-has .left) (c .has .ensures .1 h)),
+    )
 
 pub returns : need.returns
 returns c = passed-all _ _ _ (c .loop-k .reach) (c .loop-k .left)

@@ -36,7 +36,7 @@ loop-c-again c =
           let room : n < 128 = omega (arith, B .most) in
           subst (λ (x : List ℕ). Sketched F S rows x (m .moves) (n + 1)) (sym (w .facts-is))
           (subst (λ (y : List Set). Sketched F S rows (set (c .loop-c .facts) n (at (F .facts) k)) y (n + 1)) (sym (w .moves-is))
-            (sketched-more F S rows (c .loop-c .facts) (c .loop-c .moves) n k room (g .0) (g .1) (c .loop-c .inv)))
+          (sketched-more F S rows (c .loop-c .facts) (c .loop-c .moves) n k room (g .0) (g .1) (c .loop-c .inv)))
       | in-rest w ↦ absurd (B .some n low (w .in-rest .ensures tt))
     ]
 

@@ -23,11 +23,11 @@ loop-s-again g c =
       | then-component-s w ↦
           subst (λ (x : List ℕ). Heard M component x (o .seen) (n + 1)) (sym (w .facts-is))
           (subst (λ m. Heard M component (set (c .loop-s .facts) (c .loop-s .seen) (w .facts .result .bits)) m (n + 1)) (sym (w .seen-is))
-            (heard-new M component (c .loop-s .facts) (c .loop-s .seen) n (c .loop-s .inv) (w .facts .result .bits) (omega arith) (w .if-component-s .taken) (w .facts .ensures)))
+          (heard-new M component (c .loop-s .facts) (c .loop-s .seen) n (c .loop-s .inv) (w .facts .result .bits) (omega arith) (w .if-component-s .taken) (w .facts .ensures)))
       | else-component-s w ↦
           subst (λ (x : List ℕ). Heard M component x (o .seen) (n + 1)) (sym (w .facts-is))
           (subst (λ m. Heard M component (c .loop-s .facts) m (n + 1)) (sym (w .seen-is))
-            (heard-old M component (c .loop-s .facts) (c .loop-s .seen) n (c .loop-s .inv) (λ s i h l. c .pre .order s i (omega arith) l) (w .if-component-s .left)))
+          (heard-old M component (c .loop-s .facts) (c .loop-s .seen) n (c .loop-s .inv) (λ s i h l. c .pre .order s i (omega arith) l) (w .if-component-s .left)))
     ]
 
 pub returns : need.returns

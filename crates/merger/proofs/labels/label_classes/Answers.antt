@@ -24,7 +24,7 @@ loop-k-again c =
     let few = c .pre in (
       length-set (c .loop-k .rows) _ _ ∙ long,
       filled-more none (λ k (x : Set). (j : ℕ) → In x j ↔ ((j < 64) × (bit (at (c .args .facts .now) k) j ≡ 1)))
-      (c .loop-k .rows) (c .loop-k .k) (c .from-bits .result) (omega arith) (i .1) (c .from-bits .ensures),
+          (c .loop-k .rows) (c .loop-k .k) (c .from-bits .result) (omega arith) (i .1) (c .from-bits .ensures),
     )
 
 pub part-requires : need.part-requires
@@ -39,8 +39,8 @@ returns c =
     record {
       numbers = numbering-as (Like rows (replicate 128 0)) (λ j k. SameWords (words-of (at facts j)) (words-of (at facts k))) (c .args .count) _ _
           (λ j k h l.
-              let s = same-words (at facts j) (at facts k) (set-at rows j) (set-at rows k) (tells j h) (tells k l) in
-              ((λ p. s .0 (p .1)), (λ q. (blank 128 j 0 ∙ sym (blank 128 k 0), s .1 q))))
+          let s = same-words (at facts j) (at facts k) (set-at rows j) (set-at rows k) (tells j h) (tells k l) in
+          ((λ p. s .0 (p .1)), (λ q. (blank 128 j 0 ∙ sym (blank 128 k 0), s .1 q))))
           (c .part .ensures .numbers);
       groups = c .part .ensures .groups;
     }

@@ -22,7 +22,7 @@ loop-j-again c =
       (λ j h. i .0 j (S .others j .0 h .0)),
       (λ j h. ⊎-elim
           (λ e. inr (λ same. both-ways (c .same .result) (c .if-same .left)
-              (c .same .ensures .1 (subst (λ k. Same (set-at (c .args .rows .now) k) (c .args .row)) e same))))
+          (c .same .ensures .1 (subst (λ k. Same (set-at (c .args .rows .now) k) (c .args .row)) e same))))
           (λ other. ⊎-elim (λ l. inl (S .others j .1 (l, other))) inr (i .1 j h))
           (cases-eq j (c .in-Some .j))),
     )

@@ -22,6 +22,6 @@ returns c =
       (λ all.
           let z : (i : ℕ) → i ≡ f → x i ≡ 0 = λ i e. all i (omega arith) (omega arith) in
           eq-eqb _ _ (zero-or _ _
-            (zero-or _ _ (zero-or _ _ (zero-or _ _ (all f (omega arith) (omega arith)) (all (f + 1) (omega arith) (omega arith))) (all (f + 2) (omega arith) (omega arith))) (all (f + 3) (omega arith) (omega arith)))
-            (zero-or _ _ (zero-or _ _ (zero-or _ _ (all (f + 4) (omega arith) (omega arith)) (all (f + 5) (omega arith) (omega arith))) (all (f + 6) (omega arith) (omega arith))) (all (f + 7) (omega arith) (omega arith))))),
+          (zero-or _ _ (zero-or _ _ (zero-or _ _ (all f (omega arith) (omega arith)) (all (f + 1) (omega arith) (omega arith))) (all (f + 2) (omega arith) (omega arith))) (all (f + 3) (omega arith) (omega arith)))
+          (zero-or _ _ (zero-or _ _ (zero-or _ _ (all (f + 4) (omega arith) (omega arith)) (all (f + 5) (omega arith) (omega arith))) (all (f + 6) (omega arith) (omega arith))) (all (f + 7) (omega arith) (omega arith))))),
     )

@@ -18,7 +18,7 @@ loop-k-again c =
     let long : length (c .loop-k .reach) ≡ 128 = i .0 in (
       length-set (c .loop-k .reach) _ _ ∙ long,
       filled-more [] (λ k row. (j : ℕ) → (at row j ≡ 1) ↔ In (set-at (c .args .sets .now) k) j) (c .loop-k .reach) (c .loop-k .k) (c .marks .result)
-      (omega arith) (i .1) (c .marks .ensures),
+          (omega arith) (i .1) (c .marks .ensures),
     )
 
 pub returns : need.returns

@@ -21,11 +21,11 @@ loop-k-again c =
     let p = c .args .parting .now in (
       length-set (c .loop-k .reach) _ _ ∙ long,
       cut-more _ (λ k j. In (set-at members (at class k)) j × (In (set-at (p .members) (at (p .class) k)) j → ⊥) → ⊥) (c .loop-k .reach) k (c .clear .last .row)
-      (omega arith) (i .1)
-      (λ l. let q = c .clear .ensures l in let m = c .minus .ensures .means l in (
-        (λ e. let o = q .0 e in (o .0, λ g. o .1 (m .1 g))),
-        (λ o. q .1 (o .0, λ g. o .1 (m .0 g))),
-      )),
+          (omega arith) (i .1)
+          (λ l. let q = c .clear .ensures l in let m = c .minus .ensures .means l in (
+            (λ e. let o = q .0 e in (o .0, λ g. o .1 (m .1 g))),
+            (λ o. q .1 (o .0, λ g. o .1 (m .0 g))),
+          )),
     )
 
 pub returns : need.returns

@@ -22,8 +22,10 @@ loop-l-again c =
     let few = c .pre in
     let Is : Set → Type 0 = λ all. (n + 1 ≤ 128) × Gathered all (c .args .row .now) (c .args .sets .now) (c .args .count) (n + 1) in
     elim (c .if-row-l-eq1 .came) [
-      | then-row-l-eq1 w ↦ subst Is (sym (w .all-is)) (omega arith,
-          gathered-on _ _ _ all _ n (c .loop-l .inv .1) (c .loop-l-test .taken) (w .if-row-l-eq1 .taken) (w .or-all .ensures .means))
+      | then-row-l-eq1 w ↦ subst Is (sym (w .all-is)) (
+        omega arith,
+        gathered-on _ _ _ all _ n (c .loop-l .inv .1) (c .loop-l-test .taken) (w .if-row-l-eq1 .taken) (w .or-all .ensures .means),
+      )
       | else-row-l-eq1 w ↦ subst Is (sym (w .all-is)) (omega arith, gathered-off _ _ _ all n (c .loop-l .inv .1) (w .if-row-l-eq1 .left))
     ]
 

@@ -22,9 +22,9 @@ returns-in-Some c =
           (j .0, k, o .0, S .has, o .1),
       λ p.
           let other : (i : ℕ) → On (c .args .self .bits) i → (i ≡ k → ⊥) → y ≡ 0 → ⊥ =
-              λ i h n z. none-in i (subst (λ (b : ℕ). On b i) z (S .others i .1 (h, n))) in
+          λ i h n z. none-in i (subst (λ (b : ℕ). On b i) z (S .others i .1 (h, n))) in
           not-from-false (eqb y 0) (ne-eqb y 0 (⊎-elim
-              (λ e. other (p .1) (p .3) (λ e′. p .4 (e ∙ sym e′)))
-              (λ n. other (p .0) (p .2) n)
-              (cases-eq (p .0) k))),
+          (λ e. other (p .1) (p .3) (λ e′. p .4 (e ∙ sym e′)))
+          (λ n. other (p .0) (p .2) n)
+          (cases-eq (p .0) k))),
     )

@@ -12,7 +12,11 @@ use Rattle.merger.proofs.reduced.Reduced.empty.Needs as need
 pub ghost-result : need.ghost-result
 ghost-result c = (
   omega arith,
-  (omega arith,
-    ((λ s a past. ap (λ x. words-of x a) (blank 128 s 0) ∙ no-words a),
-      ((λ s j h. absurd (none-in j (subst (λ (x : Set). In x j) (blank 128 s none) h))), tt))),
+  (
+    omega arith,
+    (
+      (λ s a past. ap (λ x. words-of x a) (blank 128 s 0) ∙ no-words a),
+      ((λ s j h. absurd (none-in j (subst (λ (x : Set). In x j) (blank 128 s none) h))), tt),
+    ),
+  ),
 )
