@@ -1,2 +1,5 @@
 pub mod Space
 pub mod Holds
+pub mod Labelling
+pub mod Measuring
+pub mod Giving

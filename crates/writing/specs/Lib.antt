@@ -1,2 +1,4 @@
 pub mod Appends
 pub mod Writings
+pub mod Saves
+pub mod Savings
