@@ -8,7 +8,7 @@ use lib.ListN.{length, take, drop, getD}
 use Rattle.std.specs.Joined.{joined}
 use Rattle.std.specs.shelf.Lists.{All}
 use Rattle.std.proofs.shelf.Elements.{all-getD}
-use Rattle.std.proofs.shelf.Lists.{append-nil, joined-more, length-append, map-push, take-all, take-append-drop, take-map}
+use Rattle.std.proofs.shelf.Lists.{joined-more, length-append, length-take-le, map-push, take-all, take-append-drop, take-map}
 use Rattle.kripke.specs.Models.{Kripke, words-at}
 use Rattle.kripke.specs.Words.{SameWords}
 use Rattle.models.specs.Facts.{fact-words}
@@ -152,6 +152,10 @@ file-length labels rows =
     ∙ (length-append (code (length labels) ++ codes (bits-of labels)) (rows-code rows)
     ∙ ap (λ k. k + length (rows-code rows)) (length-append (code (length labels)) (codes (bits-of labels))))
 
+-- the file of the first rows is no longer than that of all
+pub file-upto : (labels : List Facts) (rows : List (List ℕ)) (count : ℕ) → length (file-of labels (take count rows)) ≤ length (file-of labels rows)
+file-upto labels rows count = omega (arith, file-length labels (take count rows), file-length labels rows, rows-code-upto rows count)
+
 module _ (M : Kripke) (before : List ℕ) (len n : ℕ) (measured : Measured M (space-of before) len) (is-size : n ≡ M .frame .size) where
   coded-size : length (code n) ≡ length (code (length (measured .labels)))
   coded-size = ap (λ m. length (code m)) (is-size ∙ sym (measured .are .many))
@@ -219,9 +223,14 @@ module _ (M : Kripke) (before : List ℕ) (len n : ℕ) (measured : Measured M (
           let file : (code n ++ codes (bits-of labels)) ++ rows-code (take size (rows-of M)) ≡ file-of labels (rows-of M) =
           ap (λ m. (code m ++ codes (bits-of labels)) ++ rows-code (take size (rows-of M))) (is-size ∙ sym (given .are .many))
           ∙ (ap (λ rs. (code (length labels) ++ codes (bits-of labels)) ++ rows-code rs) full ∙ sym (file-parts labels (rows-of M))) in
+          let filed = subst (λ rs. Filed third answer labels rs) full (close third labels (take size (rows-of M)) held) in
+          let sizes = ap (λ ls. length (codes (bits-of ls))) same-labels in
+          let long = ap length (sym file) ∙ (length-append (code n ++ codes (bits-of labels)) (rows-code (take size (rows-of M))) ∙ ap (λ k. k + length (rows-code (take size (rows-of M)))) (length-append (code n) (codes (bits-of labels)))) in
+          let rest = ap (λ rs. length (rows-code rs)) full in
           record {
             labels = labels;
             are = given .are;
-            filed = subst (λ rs. Filed third answer labels rs) full (close third labels (take size (rows-of M)) held);
+            filed = filed;
+            fits = let inside = filed .inside in omega (arith, long, whole, sizes, length-take-le answer third inside, ap length (filed .text));
             text = three ∙ ap (placed before 0) file;
           }

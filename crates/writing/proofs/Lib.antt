@@ -3,3 +3,4 @@ pub mod Holds
 pub mod Labelling
 pub mod Measuring
 pub mod Giving
+pub mod Trips

@@ -31,6 +31,10 @@ pub record Labelled (M : Kripke) (count : ℕ) (labels : List Facts) : Type 0 wh
 abbrev pub Labels : Kripke → List Facts → Type 0
 Labels M labels = Labelled M (M .frame .size) labels
 
+-- the bytes that a file may fill
+abbrev pub space-of : List ℕ → ℕ
+space-of buffer = min (length buffer) longest
+
 -- a space of so many bytes is too short for all labels and the first rows, and these rows rise
 pub record TooShort (M : Kripke) (space : ℕ) : Type 0 where
   pub sized : Sized (M .frame .size)
@@ -64,11 +68,8 @@ pub record Saved (M : Kripke) (before after : List ℕ) (len : ℕ) : Type 0 whe
   pub labels : List Facts
   pub are : Labels M labels
   pub filed : Filed after len labels (rows-of M)
+  pub fits : len ≤ space-of before
   pub text : after ≡ placed before 0 (file-of labels (rows-of M))
-
--- the bytes that a file may fill
-abbrev pub space-of : List ℕ → ℕ
-space-of buffer = min (length buffer) longest
 
 -- it is written; or it is refused, and nothing is altered
 abbrev pub Saves : Kripke → List ℕ → List ℕ → Result ℕ WriteFault → Type 0

@@ -10,6 +10,7 @@ ghost use Rattle.bytes.specs.Pieces.{placed};
 ghost use Rattle.modelfile.specs.Files.{bits-of, RisingRow};
 ghost use Rattle.writing.specs.Saves.{Labels, Saved, Saves, SaveFault, Measured, space-of};
 ghost use Rattle.writing.specs.Savings.{MeasuredRow, SetsFit, SetsGiven, RowsFit, RowsGiven};
+ghost use Rattle.writing.specs.Trips.{Closed-loads-back, Saved-loads-back, Loaded-saves-back, One-saving};
 ghost use Rattle.writing.specs.Writings.{RowsHold, RowDone, RowFault, HandsBack};
 use crate::protocol::Refused;
 use crate::protocol::Rows;
@@ -149,4 +150,15 @@ pub fn save<M: Model>(model: &M, buffer: &mut [u8]) -> Result<usize, WriteFault>
 {
     let _len = measure(model, buffer.len().min(LONGEST))?;
     write_out(model, buffer)
+}
+
+/// The laws of writing and loading: what a closed writing wrote is accepted and denotes just what was given; a saved
+/// model loads as an equal one; a loaded file is saved as its own bytes; and `save` has one answer.
+pub fn trip_laws() -> u8
+    ensures closed { λ _. ⌜ Closed-loads-back ⌝ }
+    ensures saved { λ _. ⌜ Saved-loads-back ⌝ }
+    ensures loaded { λ _. ⌜ Loaded-saves-back ⌝ }
+    ensures single { λ _. ⌜ One-saving ⌝ }
+{
+    0
 }
