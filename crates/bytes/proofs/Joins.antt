@@ -20,7 +20,8 @@ module _ {X A : Type 0} (f : X → List A) where
   pub joined-all : (xs : List X) (i : ℕ) → length xs ≤ i → joined f (take i xs) ≡ joined f xs
   joined-all xs i h = ap (joined f) (take-all i xs h)
 
-  joined-front : (xs : List X) (i : ℕ) → length (joined f (take i xs)) ≤ length (joined f xs)
+  -- what the first pieces take is no more than all take
+  pub joined-front : (xs : List X) (i : ℕ) → length (joined f (take i xs)) ≤ length (joined f xs)
   joined-front xs i =
       let split = ap (joined f) (sym (take-append-drop i xs)) ∙ joined-append (take i xs) (drop i xs) in
       omega (arith, simp length-append at (ap length split))

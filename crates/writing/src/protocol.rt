@@ -139,7 +139,7 @@ impl Sets {
 }
 
 // Whether the targets strictly rise and are below `states`.
-fn is_rising(targets: &[u16], states: u16) -> bool
+pub(crate) fn is_rising(targets: &[u16], states: u16) -> bool
     ensures { λ r. ⌜ When r (RisingRow states (now (targets .entry))) (RisingRow states (now (targets .entry)) → ⊥) ⌝ }
 {
     let mut low = 0;
