@@ -122,9 +122,9 @@ impl Tally {
         let (numbers, _) = numbered(heap, relation)?;
         for (s, number) in numbers.iter().enumerate() {
             self.classes = self.classes.wrapping_add(1);
-            self.expect(analysis.class(s as u16) == Ok(*number));
-            let partner = plain.size() - 1 - s;
-            let joint = analysis.together(s as u16, partner as u16);
+            self.expect(analysis.class(state(s)) == Ok(*number));
+            let partner = plain.size().wrapping_sub(s).wrapping_sub(1);
+            let joint = analysis.together(state(s), state(partner));
             self.expect(joint == Ok(crate::oracle::relates(relation, s, partner)));
         }
         Ok(())
@@ -148,7 +148,7 @@ impl Tally {
             );
             self.expect(reduced.degree(c) as usize == wanted.moves(c as usize).len());
             for (k, t) in wanted.moves(c as usize).iter().enumerate() {
-                self.expect(reduced.target(c, k as u16) == Some(*t));
+                self.expect(reduced.target(c, state(k)) == Some(*t));
             }
         }
         Ok(())
@@ -172,7 +172,7 @@ impl Tally {
             let truth = plain.truth(heap, formula(i))?;
             for s in 0..plain.size() {
                 let mark = if has(truth.as_slice(), s) { 1 } else { 0 };
-                let class = analysis.class(s as u16).unwrap_or(128);
+                let class = analysis.class(state(s)).unwrap_or(128);
                 self.truths = self.truths.wrapping_add(1);
                 self.expect(full.get(s).copied() == Some(mark));
                 self.expect(small.get(class as usize).copied() == Some(mark));
@@ -180,4 +180,9 @@ impl Tally {
         }
         Ok(())
     }
+}
+
+// A state's number; what is too large for one is no state.
+fn state(s: usize) -> u16 {
+    u16::try_from(s).unwrap_or(u16::MAX)
 }
