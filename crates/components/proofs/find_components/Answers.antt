@@ -5,16 +5,16 @@ use Rattle.components.proofs.find_components.Goals as goal
 
 pub number-sizes-requires : goal.number-sizes-requires
 number-sizes-requires g c =
-    let few = c.search-all-marks.ensures.few in
+    let few = c.search_all-marks.ensures.few in
     record {
       size = omega arith;
       done = λ s l.
-          let d = c.search-all-marks.ensures.each s (omega (arith, c.size-size.ensures)) in
+          let d = c.search_all-marks.ensures.each s (omega (arith, c.size-size.ensures)) in
           (d.0, d.1, omega (arith, d.2, few, c.size-size.ensures));
     }
 
-pub with-self-moves-cyclic-requires : goal.with-self-moves-cyclic-requires
-with-self-moves-cyclic-requires g c =
+pub with_self_moves-cyclic-requires : goal.with_self_moves-cyclic-requires
+with_self_moves-cyclic-requires g c =
     let ranked = c.number-sizes.ensures.numbering.ranked in
     record {
       size = (c.size-size.ensures, omega arith);
@@ -26,5 +26,5 @@ returns g c =
     let M = g.M.Model.means c.args.model.now in
     let n = c.size-size.ensures in (
       (omega (arith, n), omega (arith, n), omega (arith, n)),
-      finds M (g.M.Model.formed c.args.model.now) _ _ c.search-all-marks.ensures _ n _ _ _ _ _ c.number-sizes.ensures c.with-self-moves-cyclic.ensures,
+      finds M (g.M.Model.formed c.args.model.now) _ _ c.search_all-marks.ensures _ n _ _ _ _ _ c.number-sizes.ensures c.with_self_moves-cyclic.ensures,
     )

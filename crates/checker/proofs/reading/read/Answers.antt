@@ -8,7 +8,7 @@ loop-i-preserved c =
     let steps = c.args.steps.now in
     let more = operands_more steps c.loop-i.i (omega arith) in (
       below_more (Fine c.args.words steps) c.loop-i.i c.loop-i.invariant.0
-          (c.is-known.ensures.0 c.if-not-is-known.false, omega (arith, c.arity-taken.ensures)),
+          (c.is_known.ensures.0 c.if-not-is_known.false, omega (arith, c.arity-taken.ensures)),
       omega (arith, c.arity-taken.ensures),
       omega arith,
     )

@@ -9,19 +9,19 @@ use Rattle.codec.proofs.Coding.{code_last}
 use Rattle.codec.proofs.Standing.{begins_on, refused_on, refused_at, refused_past}
 use Rattle.codec.proofs.numbers.+take_number.Goals as goal
 
-pub returns-in-err-high : goal.returns-in-err-high
-returns-in-err-high t c =
-    let p = err_from_is_err_and c.from-residual.result c.from-residual.ensures.1 in
+pub returns-in_err-high : goal.returns-in_err-high
+returns-in_err-high t c =
+    let p = err_from_is_err_and c.from_residual.result c.from_residual.ensures.1 in
     let same : c.args.more - 1 + 1 ≡ c.args.more = omega arith in
-    let inner = subst (λ k. RefusedBelow (128 ^ k) c.in-err-high.field-0.0 (between 1 (length c.args.bytes.now) c.args.bytes.now)) same c.in-err-high.ensures in
+    let inner = subst (λ k. RefusedBelow (128 ^ k) c.in_err-high.field-0.0 (between 1 (length c.args.bytes.now) c.args.bytes.now)) same c.in_err-high.ensures in
     rw (p.1, p.2)
-    (subst (RefusedBelow (128 ^ (c.args.more + 1)) c.in-err-high.field-0.0) (sym (first_rest c.args.bytes.now 0 (omega (arith, ltb-false))))
+    (subst (RefusedBelow (128 ^ (c.args.more + 1)) c.in_err-high.field-0.0) (sym (first_rest c.args.bytes.now 0 (omega (arith, ltb-false))))
     (refused_on c.args.more _ _ _ c.if-last-lt-MORE.false inner))
 
 pub returns-then-high-eq0 : goal.returns-then-high-eq0
 returns-then-high-eq0 t c =
     subst (RefusedBelow (128 ^ (c.args.more + 1)) NotFewest) (sym (first_rest c.args.bytes.now 0 (omega (arith, ltb-false))))
-    (refused_at _ _ _ _ _ c.if-last-lt-MORE.false c.in-ok-high.ensures
+    (refused_at _ _ _ _ _ c.if-last-lt-MORE.false c.in_ok-high.ensures
     (elim c.then-high-eq0.either [ inl z ↦ inl z | inr z ↦ inr z.1 ]))
 
 pub returns-in-empty : goal.returns-in-empty
@@ -34,13 +34,13 @@ returns-in-len1-up t c =
 pub returns-else-high-ge-HIGH-LIMIT : goal.returns-else-high-ge-HIGH-LIMIT
 returns-else-high-ge-HIGH-LIMIT t c =
     let byte : get_or c.args.bytes.now 0 0 < 256 = search rules in
-    begins_on _ _ _ _ _ (first_rest c.args.bytes.now 0 (omega (arith, ltb-false))) c.if-last-lt-MORE.false byte (omega arith) c.in-ok-high.ensures
+    begins_on _ _ _ _ _ (first_rest c.args.bytes.now 0 (omega (arith, ltb-false))) c.if-last-lt-MORE.false byte (omega arith) c.in_ok-high.ensures
 
-pub returns-then-has-end : goal.returns-then-has-end
-returns-then-has-end t c =
+pub returns-then-has_end : goal.returns-then-has_end
+returns-then-has_end t c =
     subst (RefusedBelow (128 ^ (c.args.more + 1)) NotFewest) (sym (first_rest c.args.bytes.now 0 (omega (arith, ltb-false))))
-    (refused_past _ _ _ c.if-more-eq0.true c.if-last-lt-MORE.false c.if-has-end.ensures)
+    (refused_past _ _ _ c.if-more-eq0.true c.if-last-lt-MORE.false c.if-has_end.ensures)
 
-pub returns-else-has-end : goal.returns-else-has-end
-returns-else-has-end t c =
-    subst Endless (sym (first_rest c.args.bytes.now 0 (omega (arith, ltb-false)))) (c.if-last-lt-MORE.false, c.if-has-end.ensures)
+pub returns-else-has_end : goal.returns-else-has_end
+returns-else-has_end t c =
+    subst Endless (sym (first_rest c.args.bytes.now 0 (omega (arith, ltb-false)))) (c.if-last-lt-MORE.false, c.if-has_end.ensures)

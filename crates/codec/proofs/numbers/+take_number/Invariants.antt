@@ -1,4 +1,4 @@
 use Rattle.codec.proofs.numbers.+take_number.Given as goal
 
-abbrev pub decreases-take-number : goal.decreases-take-number
-decreases-take-number l = l.more
+abbrev pub decreases-take_number : goal.decreases-take_number
+decreases-take_number l = l.more

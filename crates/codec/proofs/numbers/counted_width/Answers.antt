@@ -6,14 +6,14 @@ use Rattle.codec.proofs.numbers.counted_width.Goals as goal
 pub returns-then-count-most : goal.returns-then-count-most
 returns-then-count-most c = omega (arith, length-append (code (length c.args.numbers.now)) (codes c.args.numbers.now))
 
-pub returns-in-err-others : goal.returns-in-err-others
-returns-in-err-others c =
-    let over = c.in-err-others.ensures in
+pub returns-in_err-others : goal.returns-in_err-others
+returns-in_err-others c =
+    let over = c.in_err-others.ensures in
     let wide = length-append (code (length c.args.numbers.now)) (codes c.args.numbers.now) in
-    rw c.from-residual.ensures (omega arith)
+    rw c.from_residual.ensures (omega arith)
 
 pub returns : goal.returns
 returns c =
-    let others = c.in-ok-others.ensures in
+    let others = c.in_ok-others.ensures in
     let wide = length-append (code (length c.args.numbers.now)) (codes c.args.numbers.now) in
     (omega (arith, others.0), omega (arith, others.1))

@@ -4,8 +4,8 @@ use Rattle.codec.proofs.Joins.{joined-all, joined_within, length_step}
 use Rattle.codec.proofs.Lines.{digits_few}
 use Rattle.codec.proofs.text.fields_width.Goals as goal
 
-pub overflow-add-next : goal.overflow-add-next
-overflow-add-next c =
+pub overflow_add-next : goal.overflow_add-next
+overflow_add-next c =
     let small : get_or c.args.numbers.now c.loop-number.number-index 0 < 2 ^ 64 = search rules in
     search (rules, digits_few _ small)
 

@@ -6,6 +6,6 @@ use Rattle.codec.proofs.text.line_width.Goals as goal
 
 pub returns : goal.returns
 returns c =
-    subst (λ wide. Measures wide c.args.most c.width-after.result)
+    subst (λ wide. Measures wide c.args.most c.width_after.result)
     (sym (length-append c.args.name.now (ending c.args.numbers.now)))
-    c.width-after.ensures
+    c.width_after.ensures

@@ -7,5 +7,5 @@ returns c =
     let inside : c.args.at ≤ length c.args.buffer.now = omega arith in
     record {
       end = omega arith;
-      after = placed_then c.args.buffer.now _ _ (32 ∷ []) (decimal c.args.number) _ _ inside c.put-byte-first.ensures.after c.put-byte-first.ensures.end c.put-decimal.ensures.after;
+      after = placed_then c.args.buffer.now _ _ (32 ∷ []) (decimal c.args.number) _ _ inside c.put_byte-first.ensures.after c.put_byte-first.ensures.end c.put_decimal.ensures.after;
     }

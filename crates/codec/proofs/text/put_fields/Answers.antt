@@ -8,13 +8,13 @@ use Rattle.codec.proofs.text.put_fields.Goals as goal
 pub loop-number-init : goal.loop-number-init
 loop-number-init c = (sym (placed-none c.args.buffer.now c.args.from), omega arith)
 
-pub put-field-at-requires : goal.put-field-at-requires
-put-field-at-requires c = omega (arith, joined_within field c.args.numbers.now c.loop-number.number-index 0 c.loop-number-test.true)
+pub put_field-at-requires : goal.put_field-at-requires
+put_field-at-requires c = omega (arith, joined_within field c.args.numbers.now c.loop-number.number-index 0 c.loop-number-test.true)
 
 pub loop-number-preserved : goal.loop-number-preserved
 loop-number-preserved c =
     let inside : c.args.from ≤ length c.args.buffer.now = omega arith in (
-      put_step field c.args.buffer.now _ _ _ _ _ _ 0 c.loop-number-test.true inside c.loop-number.invariant.1 c.loop-number.invariant.0 c.put-field-at.ensures.after,
+      put_step field c.args.buffer.now _ _ _ _ _ _ 0 c.loop-number-test.true inside c.loop-number.invariant.1 c.loop-number.invariant.0 c.put_field-at.ensures.after,
       omega (arith, length_step field c.args.numbers.now c.loop-number.number-index 0 c.loop-number-test.true),
     )
 

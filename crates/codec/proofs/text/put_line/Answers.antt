@@ -4,18 +4,18 @@ use Rattle.codec.specs.Texts.{ending}
 use Rattle.codec.proofs.Places.{placed_then}
 use Rattle.codec.proofs.text.put_line.Goals as goal
 
-pub put-text-first-requires : goal.put-text-first-requires
-put-text-first-requires c = omega (arith, length-append c.args.name.now (ending c.args.numbers.now))
+pub put_text-first-requires : goal.put_text-first-requires
+put_text-first-requires c = omega (arith, length-append c.args.name.now (ending c.args.numbers.now))
 
-pub put-ending-requires : goal.put-ending-requires
-put-ending-requires c = omega (arith, length-append c.args.name.now (ending c.args.numbers.now))
+pub put_ending-requires : goal.put_ending-requires
+put_ending-requires c = omega (arith, length-append c.args.name.now (ending c.args.numbers.now))
 
 pub returns : goal.returns
 returns c =
     let wide = length-append c.args.name.now (ending c.args.numbers.now) in
     let inside : c.args.at ≤ length c.args.buffer.now = omega arith in
-    let first = c.put-text-first.ensures in
+    let first = c.put_text-first.ensures in
     record {
       end = omega arith;
-      after = placed_then c.args.buffer.now _ _ c.args.name.now (ending c.args.numbers.now) _ _ inside first.after first.end c.put-ending.ensures.after;
+      after = placed_then c.args.buffer.now _ _ c.args.name.now (ending c.args.numbers.now) _ _ inside first.after first.end c.put_ending.ensures.after;
     }

@@ -8,6 +8,6 @@ returns c =
     record {
       end = refl;
       after =
-          put_mid-paste c.args.at _ c.args.buffer.now _ c.args.text.now (length c.args.text.now) c.copy-from-slice.ensures.after (omega arith) refl
+          put_mid-paste c.args.at _ c.args.buffer.now _ c.args.text.now (length c.args.text.now) c.copy_from_slice.ensures.after (omega arith) refl
           ∙ paste_placed c.args.buffer.now c.args.text.now c.args.at;
     }

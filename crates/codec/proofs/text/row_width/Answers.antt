@@ -6,6 +6,6 @@ use Rattle.codec.proofs.text.row_width.Goals as goal
 
 pub returns : goal.returns
 returns c =
-    subst (λ wide. Measures wide c.args.most c.width-after.result)
+    subst (λ wide. Measures wide c.args.most c.width_after.result)
     (ap (λ n. n + length (ending c.args.numbers.now)) c.digits.ensures ∙ sym (length-append (decimal c.args.first) (ending c.args.numbers.now)))
-    c.width-after.ensures
+    c.width_after.ensures

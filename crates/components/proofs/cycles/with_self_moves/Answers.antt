@@ -5,4 +5,4 @@ pub loop-s-init : goal.loop-s-init
 loop-s-init g c = turns_none _ _ _
 
 pub loop-s-preserved : goal.loop-s-preserved
-loop-s-preserved g c = turns_more _ c.args.part.now _ _ _ _ c.loop-s.invariant c.with-self-move-cyclic.ensures
+loop-s-preserved g c = turns_more _ c.args.part.now _ _ _ _ c.loop-s.invariant c.with_self_move-cyclic.ensures

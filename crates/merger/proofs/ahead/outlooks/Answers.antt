@@ -27,8 +27,8 @@ loop-k-preserved c =
       (λ k h. i.1 k ((S.others k).0 h).0),
       along_more (λ k x. (d : ℕ) → In x d ↔ Outlook reach moves class count k d) c.args.wanted
           c.loop-k.left k c.in-Some.rest c.union.result c.loop-k.rows (omega arith) i.2 S
-          (outlook_from reach moves c.look-ahead-ahead.result class count c.args.wanted c.union.result k (i.1 k S.has) c.requires.closed
-          c.look-ahead-ahead.ensures c.union.ensures),
+          (outlook_from reach moves c.look_ahead-ahead.result class count c.args.wanted c.union.result k (i.1 k S.has) c.requires.closed
+          c.look_ahead-ahead.ensures c.union.ensures),
     )
 
 pub returns : goal.returns

@@ -15,7 +15,7 @@ loop-k-preserved c =
     let few = c.requires.few.1 in (
       length-set c.loop-k.moves _ _ ∙ long,
       filled_more none (λ k (x : Set). (j : ℕ) → In x j ↔ ((t : ℕ) × In (set_at c.tie-ties.result.targets k) t × (at c.args.component.now t ≡ j)))
-          c.loop-k.moves c.loop-k.k c.numbers-of.result (omega arith) i.1 c.numbers-of.ensures,
+          c.loop-k.moves c.loop-k.k c.numbers_of.result (omega arith) i.1 c.numbers_of.ensures,
     )
 
 pub returns : goal.returns

@@ -24,7 +24,7 @@ loop-c-preserved c =
     let B = c.requires.bounds in
     let n = c.loop-c.c in
     let low : n < S.classes = c.loop-c-test.true in
-    let m = c.match-split-first in
+    let m = c.match-split_first in
     elim m.branch [
       | in-Some w ↦
           let k = w.in-Some.k in
@@ -36,8 +36,8 @@ loop-c-preserved c =
       | in-default w ↦ absurd (B.some n low w.in-default.ensures)
     ]
 
-pub invariant-of-result : goal.invariant-of-result
-invariant-of-result c =
+pub invariant_of-result : goal.invariant_of-result
+invariant_of-result c =
     let F = c.args.found.now in
     let S = c.args.rounds.now in
     let rows = c.args.rows.now in

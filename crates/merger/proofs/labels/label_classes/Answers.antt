@@ -20,7 +20,7 @@ loop-k-preserved c =
     let few = c.requires in (
       length-set c.loop-k.rows _ _ ∙ long,
       filled_more none (λ k (x : Set). (j : ℕ) → In x j ↔ ((j < 64) × (bit (at c.args.facts.now k) j ≡ 1)))
-          c.loop-k.rows c.loop-k.k c.from-bits.result (omega arith) i.1 c.from-bits.ensures,
+          c.loop-k.rows c.loop-k.k c.from_bits.result (omega arith) i.1 c.from_bits.ensures,
     )
 
 pub part-requires : goal.part-requires

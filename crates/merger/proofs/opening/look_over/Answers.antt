@@ -6,11 +6,11 @@ use Rattle.merger.specs.Starts.{Spoken}
 use Rattle.merger.proofs.Starting.{spoken_words, linked_passes}
 use Rattle.merger.proofs.opening.look_over.Goals as goal
 
-pub facts-of-facts-requires : goal.facts-of-facts-requires
-facts-of-facts-requires g c =
+pub facts_of-facts-requires : goal.facts_of-facts-requires
+facts_of-facts-requires g c =
     let M = g.M.Model.means c.args.model.now in
     let K = c.in-Ok.ensures.1.components in
-    let few = ranked_few M.frame.size c.in-Ok.parts.count (number c.find-components.new.part) K.ranked in
+    let few = ranked_few M.frame.size c.in-Ok.parts.count (number c.find_components.new.part) K.ranked in
     let e = c.size-size.ensures in
     let small = c.requires.admitted.0.1 in
     record {
@@ -19,11 +19,11 @@ facts-of-facts-requires g c =
       order = λ s i h l. K.ranked.order s i (omega arith) l;
     }
 
-pub moves-between-moves-requires : goal.moves-between-moves-requires
-moves-between-moves-requires g c =
+pub moves_between-moves-requires : goal.moves_between-moves-requires
+moves_between-moves-requires g c =
     let M = g.M.Model.means c.args.model.now in
     let K = c.in-Ok.ensures.1.components in
-    let few = ranked_few M.frame.size c.in-Ok.parts.count (number c.find-components.new.part) K.ranked in
+    let few = ranked_few M.frame.size c.in-Ok.parts.count (number c.find_components.new.part) K.ranked in
     let e = c.size-size.ensures in
     let small = c.requires.admitted.0.1 in
     record {
@@ -36,18 +36,18 @@ pub returns : goal.returns
 returns g c =
     let M = g.M.Model.means c.args.model.now in
     let K = c.in-Ok.ensures.1.components in
-    let component = c.find-components.new.part in
+    let component = c.find_components.new.part in
     let e = c.size-size.ensures in
     record {
       formed = g.M.Model.formed c.args.model.now;
       admitted = c.requires.admitted;
       states = e;
       words = c.words-found.ensures;
-      facts = λ s h. spoken_words M (g.M.Model.formed c.args.model.now) component c.facts-of-facts.result c.in-Ok.parts.count K s h
-          (subst (λ n. Spoken M component c.facts-of-facts.result n (at component s)) e (c.facts-of-facts.ensures s (omega arith)));
+      facts = λ s h. spoken_words M (g.M.Model.formed c.args.model.now) component c.facts_of-facts.result c.in-Ok.parts.count K s h
+          (subst (λ n. Spoken M component c.facts_of-facts.result n (at component s)) e (c.facts_of-facts.ensures s (omega arith)));
       components = K;
       moves = λ k l h.
-          let m = c.moves-between-moves.ensures k l h in
+          let m = c.moves_between-moves.ensures k l h in
           let p = linked_passes M.frame c.args.rows.now component c.requires.linked k l in (
             (λ o. let q = m.0 o in p.0 (q.0, q.1, omega (arith, q.2), q.3, q.4, q.5)),
             (λ o. let q = p.1 o in m.1 (q.0, q.1, omega (arith, q.2), q.3, q.4, q.5)),

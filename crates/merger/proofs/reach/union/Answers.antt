@@ -13,13 +13,13 @@ loop-block-preserved c =
     let all = c.loop-block.all in
     let more : n + 8 ≡ (c.loop-block.block + 1) * 8 = omega arith in
     let Is : Set → ℕ → Type 0 = λ x m. Gathered x c.args.row.now c.args.sets.now c.args.count m in
-    subst (Is c.if-not-clear-eight.all) more (elim c.if-not-clear-eight.branch [
+    subst (Is c.if-not-clear_eight.all) more (elim c.if-not-clear_eight.branch [
       | then-not-clear-eight w ↦ subst (λ x. Is x (n + 8)) (sym w.all-is)
           (gathered_more _ _ _ all _ n 8 c.loop-block.invariant
-          (subst (λ m. Added all w.union-between-all.result c.args.row.now c.args.sets.now n m) w.min.ensures w.union-between-all.ensures))
+          (subst (λ m. Added all w.union_between-all.result c.args.row.now c.args.sets.now n m) w.min.ensures w.union_between-all.ensures))
       | else-not-clear-eight w ↦ subst (λ x. Is x (n + 8)) (sym w.all-is)
           (gathered_past _ _ _ all n 8 c.loop-block.invariant
-          (λ j low high e. let z = c.clear-eight.ensures.0 w.if-not-clear-eight.false j low high in omega arith))
+          (λ j low high e. let z = c.clear_eight.ensures.0 w.if-not-clear_eight.false j low high in omega arith))
     ])
 
 pub returns : goal.returns

@@ -11,7 +11,7 @@ pub loop-state-preserved : goal.loop-state-preserved
 loop-state-preserved c ls next many seq =
     let here = c.loop-state.invariant ls next many seq in
     let more : c.loop-state.state < length ls = omega arith in
-    fill_step _ (λ (x : Facts). x.bits) (λ (n : ℕ). record { bits = n }) (λ x. refl) c.args.labels.now _ ls 0 _ _ _ next _ _ (record { bits = 0 }) more (omega arith) (omega arith) here.0 here.1 c.known-number-bits.ensures
+    fill_step _ (λ (x : Facts). x.bits) (λ (n : ℕ). record { bits = n }) (λ x. refl) c.args.labels.now _ ls 0 _ _ _ next _ _ (record { bits = 0 }) more (omega arith) (omega arith) here.0 here.1 c.known_number-bits.ensures
 
 pub returns : goal.returns
 returns c ls next many seq =

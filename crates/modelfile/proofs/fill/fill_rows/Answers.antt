@@ -10,8 +10,8 @@ loop-state-init c rows next many seq =
     let room = c.requires.offsets_held in
     rows_start _ _ _ rows _ next (omega arith) seq
 
-pub fill-row-next-requires : goal.fill-row-next-requires
-fill-row-next-requires c =
+pub fill_row-next-requires : goal.fill_row-next-requires
+fill_row-next-requires c =
     let rows = c.requires.rows in
     let many = c.requires.many in
     let more : c.loop-state.state < length rows = omega arith in
@@ -25,15 +25,15 @@ fill-row-next-requires c =
       short = All-get_or (All (λ t. t < 4096)) rows c.loop-state.state [] more c.requires.short;
     }
 
-pub overflow-cast-offsets : goal.overflow-cast-offsets
-overflow-cast-offsets c =
+pub overflow_cast-offsets : goal.overflow_cast-offsets
+overflow_cast-offsets c =
     let rows = c.requires.rows in
     let many = c.requires.many in
     let more : c.loop-state.state < length rows = omega arith in
     let filled = c.loop-state.invariant rows c.requires.next many c.requires.stand in
-    let is = c.fill-row-next.ensures (get_or rows c.loop-state.state []) _ (row_stands _ _ _ _ _ _ _ _ _ _ filled more) in
+    let is = c.fill_row-next.ensures (get_or rows c.loop-state.state []) _ (row_stands _ _ _ _ _ _ _ _ _ _ filled more) in
     let few = c.requires.few in
-    let small : c.fill-row-next.result.1 < 2 ^ 32 = omega (arith, is.1, row-held _ _ _ _ _ _ _ _ _ _ filled more) in
+    let small : c.fill_row-next.result.1 < 2 ^ 32 = omega (arith, is.1, row-held _ _ _ _ _ _ _ _ _ _ filled more) in
     search rules
 
 pub loop-state-preserved : goal.loop-state-preserved
@@ -42,7 +42,7 @@ loop-state-preserved c rows next many seq =
     let same : length (set c.args.offsets.now 0 0) ≡ length c.args.offsets.now = length-set c.args.offsets.now 0 0 in
     let more : c.loop-state.state < length rows = omega arith in
     let filled = c.loop-state.invariant rows next many seq in
-    rows_step _ _ _ _ _ rows _ _ _ next filled more _ _ _ (omega arith) c.fill-row-next.ensures
+    rows_step _ _ _ _ _ rows _ _ _ next filled more _ _ _ (omega arith) c.fill_row-next.ensures
 
 pub returns : goal.returns
 returns c rows next many seq =

@@ -4,6 +4,6 @@ use Rattle.modelfile.proofs.scan.read_degree.Goals as goal
 
 pub returns : goal.returns
 returns c = (
-  targets_none _ _ c.args.walk _ _ _ c.requires.read c.requires.more c.in-ok-degree.ensures c.if-degree-walk.false refl refl refl refl refl refl refl,
+  targets_none _ _ c.args.walk _ _ _ c.requires.read c.requires.more c.in_ok-degree.ensures c.if-degree-walk.false refl refl refl refl refl refl refl,
   record { states = refl; rows = refl; given = refl },
 )

@@ -8,24 +8,24 @@ use Rattle.modelfile.proofs.scan.scan.Goals as goal
 pub returns-then-end-file : goal.returns-then-end-file
 returns-then-end-file c =
     let short : length c.args.file.now ≤ longest = c.if-file-gt-LONGEST.false in
-    let end = c.in-ok-end.ensures in
+    let end = c.in_ok-end.ensures in
     let read = end.0 in
     let sized = read.sized in
     let many = read.many in
-    stops _ _ (at-degree read.labels read.rows) c.in-ok-end.end.at _ short read.reached (omega (arith, end.1, end.2), refl, c.if-end-file.true)
+    stops _ _ (at-degree read.labels read.rows) c.in_ok-end.end.at _ short read.reached (omega (arith, end.1, end.2), refl, c.if-end-file.true)
 
 pub returns : goal.returns
 returns c =
     let short : length c.args.file.now ≤ longest = c.if-file-gt-LONGEST.false in
-    let end = c.in-ok-end.ensures in
+    let end = c.in_ok-end.ensures in
     let read = end.0 in
     let sized = read.sized in
-    let states : c.in-ok-states.states ≡ length read.labels = omega (arith, end.1) in
+    let states : c.in_ok-states.states ≡ length read.labels = omega (arith, end.1) in
     record {
       labels = read.labels;
       rows = read.rows;
-      denotes = all_read _ _ c.in-ok-end.end read short (omega (arith, end.1, end.2)) c.if-end-file.false;
+      denotes = all_read _ _ c.in_ok-end.end read short (omega (arith, end.1, end.2)) c.if-end-file.false;
       states = states;
       targets = sym read.counted;
-      labels_at = size_place _ _ _ _ c.in-ok-states.ensures ∙ ap (λ n. length (codes (n ∷ []))) states;
+      labels_at = size_place _ _ _ _ c.in_ok-states.ensures ∙ ap (λ n. length (codes (n ∷ []))) states;
     }

@@ -12,8 +12,8 @@ returns-then-n-ge128 c j =
       λ p. c.all.ensures j p.1,
     )
 
-pub overflow-sub-result : goal.overflow-sub-result
-overflow-sub-result c = omega (arith, one_shl c.args.n 128 c.if-n-ge128.false, pow_pos c.args.n)
+pub overflow_sub-result : goal.overflow_sub-result
+overflow_sub-result c = omega (arith, one_shl c.args.n 128 c.if-n-ge128.false, pow_pos c.args.n)
 
 pub returns : goal.returns
 returns c j =

@@ -6,8 +6,8 @@ use Rattle.sets.proofs.Set.count.Goals as goal
 pub loop-rest-init : goal.loop-rest-init
 loop-rest-init c = omega arith
 
-pub overflow-add-n : goal.overflow-add-n
-overflow-add-n c =
+pub overflow_add-n : goal.overflow_add-n
+overflow_add-n c =
     let e = ap length (members_split c.loop-rest.left c.in-Some.field-0-0 c.in-Some.rest c.in-Some.ensures) in
     omega (arith, members_few c.args.self)
 
@@ -20,4 +20,4 @@ loop-rest-preserved c =
     omega arith
 
 pub returns : goal.returns
-returns c = let e = ap length (members-none c.loop-rest.left c.in-default.ensures) in omega arith
+returns c = let e = ap length (members-none c.loop-rest.left c.in_default.ensures) in omega arith

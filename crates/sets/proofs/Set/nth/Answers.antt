@@ -17,15 +17,15 @@ returns-in-None c =
     let past = drop-ends (members c.args.self) c.loop.counter (c.loop.invariant ∙ members-none c.loop.left c.in-None.ensures) in
     nth_past (members c.args.self) c.args.k (omega arith)
 
-pub returns-in-Some-split-first : goal.returns-in-Some-split-first
-returns-in-Some-split-first c =
+pub returns-in-Some-split_first : goal.returns-in-Some-split_first
+returns-in-Some-split_first c =
     let i = c.loop.counter in
     let e : i ≡ c.args.k = omega arith in
-    nth_here (members c.args.self) i c.in-Some-split-first.first (members c.in-Some-split-first.field-0-1)
-    (c.loop.invariant ∙ members_split c.loop.left c.in-Some-split-first.first c.in-Some-split-first.field-0-1 c.in-Some-split-first.ensures)
+    nth_here (members c.args.self) i c.in-Some-split_first.first (members c.in-Some-split_first.field-0-1)
+    (c.loop.invariant ∙ members_split c.loop.left c.in-Some-split_first.first c.in-Some-split_first.field-0-1 c.in-Some-split_first.ensures)
     ∙ ap (nth_of (members c.args.self)) e
 
-pub returns-in-None-split-first : goal.returns-in-None-split-first
-returns-in-None-split-first c =
-    let past = drop-ends (members c.args.self) c.loop.counter (c.loop.invariant ∙ members-none c.loop.left c.in-None-split-first.ensures) in
+pub returns-in-None-split_first : goal.returns-in-None-split_first
+returns-in-None-split_first c =
+    let past = drop-ends (members c.args.self) c.loop.counter (c.loop.invariant ∙ members-none c.loop.left c.in-None-split_first.ensures) in
     nth_past (members c.args.self) c.args.k (omega arith)

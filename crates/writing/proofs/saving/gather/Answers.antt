@@ -27,8 +27,8 @@ loop-k-preserved g c =
     let few : length row ≤ 4096 = (g.M.Model.formed c.args.model.now).frame.few_moves c.args.s in
     let more : k < length row = omega arith in
     let taken = length-take-le k row (omega arith) in
-    let is : c.unwrap-or.result ≡ get_or row k nowhere = found row k _ _ more c.target.ensures c.unwrap-or.ensures in
-    placed-set c.args.row.now c.loop-k.row (take k row) 0 k c.unwrap-or.result (omega arith) c.loop-k.invariant (omega arith)
+    let is : c.unwrap_or.result ≡ get_or row k nowhere = found row k _ _ more c.target.ensures c.unwrap_or.ensures in
+    placed-set c.args.row.now c.loop-k.row (take k row) 0 k c.unwrap_or.result (omega arith) c.loop-k.invariant (omega arith)
     ∙ ap (placed c.args.row.now 0) (ap (λ t. take k row ++ (t ∷ [])) is ∙ sym (take_more row k nowhere more))
 
 pub returns : goal.returns

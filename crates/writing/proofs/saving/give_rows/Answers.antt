@@ -5,16 +5,16 @@ use Rattle.writing.proofs.saving.give_rows.Goals as goal
 pub loop-s-init : goal.loop-s-init
 loop-s-init g c = (rows_none _ _ _ c.requires.states c.requires.none, refl)
 
-pub returns-in-err-rows : goal.returns-in-err-rows
-returns-in-err-rows g c =
+pub returns-in_err-rows : goal.returns-in_err-rows
+returns-in_err-rows g c =
     let M = g.M.Model.means c.args.model.now in
-    absurd (row_absurd M _ _ _ _ _ _ c.requires c.loop-s.invariant.0 c.loop-s.auto.buffer (omega arith) c.in-err-rows.ensures.answer.because)
+    absurd (row_absurd M _ _ _ _ _ _ c.requires c.loop-s.invariant.0 c.loop-s.auto.buffer (omega arith) c.in_err-rows.ensures.answer.because)
 
 pub loop-s-preserved : goal.loop-s-preserved
 loop-s-preserved g c =
     let M = g.M.Model.means c.args.model.now in
     let fits = c.requires.fits in
-    let done = c.in-ok-rows.ensures in
+    let done = c.in_ok-rows.ensures in
     (rows_more M _ _ _ _ _ _ _ (omega arith) (omega arith) c.loop-s.invariant.0 done.answer done.holds, search rules)
 
 pub returns : goal.returns

@@ -13,8 +13,8 @@ loop-s-init g c =
     let is : c.width-wide.result ≡ length (code M.frame.size) = c.width-wide.ensures ∙ ap (λ n. length (code n)) c.size-states.ensures in
     (([], labelled_none M, is ∙ ap length (sym (append-nil (code M.frame.size)))), omega arith)
 
-pub overflow-add-wide : goal.overflow-add-wide
-overflow-add-wide g c =
+pub overflow_add-wide : goal.overflow_add-wide
+overflow_add-wide g c =
     let small : c.facts.result.bits < 2 ^ 64 = search rules in
     let more = code_few c.facts.result.bits small in
     let few : (g.M.Model.means c.args.model.now).frame.size ≤ 4096 = (g.M.Model.formed c.args.model.now).frame.few_states in

@@ -4,18 +4,18 @@ use Rattle.modelfile.specs.Files.{Sized}
 use Rattle.writing.proofs.Measuring.{measured_none, measured_more, measured_all, labels_over, row_refused_lem}
 use Rattle.writing.proofs.saving.measure.Goals as goal
 
-pub returns-in-err-wide : goal.returns-in-err-wide
-returns-in-err-wide g c =
+pub returns-in_err-wide : goal.returns-in_err-wide
+returns-in_err-wide g c =
     let M = g.M.Model.means c.args.model.now in
     let few : M.frame.size ≤ 4096 = (g.M.Model.formed c.args.model.now).frame.few_states in
     let sized : Sized M.frame.size = (omega arith, omega arith) in
-    let p = err_from_is_err_and c.from-residual.result c.from-residual.ensures.1 in
-    rw (p.1, p.2) (row_refused_lem M _ _ _ _ sized (omega arith) c.loop-s.invariant.0 c.in-err-wide.ensures)
+    let p = err_from_is_err_and c.from_residual.result c.from_residual.ensures.1 in
+    rw (p.1, p.2) (row_refused_lem M _ _ _ _ sized (omega arith) c.loop-s.invariant.0 c.in_err-wide.ensures)
 
 pub loop-s-preserved : goal.loop-s-preserved
 loop-s-preserved g c =
     let M = g.M.Model.means c.args.model.now in
-    let done = c.in-ok-wide.ensures in
+    let done = c.in_ok-wide.ensures in
     (measured_more M _ _ _ _ (omega arith) c.loop-s.invariant.0 done.0 done.1 done.2, search rules)
 
 pub returns : goal.returns

@@ -11,33 +11,33 @@ use Rattle.merger.proofs.Promising.{tabled_promise}
 use Rattle.merger.proofs.Starting.{early, begun}
 use Rattle.merger.proofs.analysis.Analysis.open.Goals as goal
 
-pub returns-in-err-size : goal.returns-in-err-size
-returns-in-err-size g c =
-    let p = err_from_is_err_and c.from-residual.result c.from-residual.ensures.1 in
-    let q = c.in-err-size.ensures in
+pub returns-in_err-size : goal.returns-in_err-size
+returns-in_err-size g c =
+    let p = err_from_is_err_and c.from_residual.result c.from_residual.ensures.1 in
+    let q = c.in_err-size.ensures in
     rw (p.1, p.2) ((q.0, early (g.M.Model.means c.args.model.now) _ _ _ q.0 q.1), refl, refl, refl)
 
 pub start-requires : goal.start-requires
 start-requires g c =
     let M = g.M.Model.means c.args.model.now in
-    let O = c.look-over.ensures in
-    let few = ranked_few M.frame.size c.look-over.new.found.components (part c.look-over.new.found) O.components.ranked in
+    let O = c.look_over.ensures in
+    let few = ranked_few M.frame.size c.look_over.new.found.components (part c.look_over.new.found) O.components.ranked in
     let small = O.admitted.0.1 in
     record { few = omega arith }
 
-pub invariant-of-self : goal.invariant-of-self
-invariant-of-self g c = ((λ e. ∣ (g.M.Model.means c.args.model.now, 0, begun _ _ _ c.look-over.ensures c.start.ensures) ∣₁), tt)
+pub invariant_of-self : goal.invariant_of-self
+invariant_of-self g c = ((λ e. ∣ (g.M.Model.means c.args.model.now, 0, begun _ _ _ c.look_over.ensures c.start.ensures) ∣₁), tt)
 
 pub returns : goal.returns
 returns g c =
     let M = g.M.Model.means c.args.model.now in
-    let T = begun M c.look-over.new.found c.start.new.rounds c.look-over.ensures c.start.ensures in
-    let e = c.in-ok-size.ensures.0 in (
+    let T = begun M c.look_over.new.found c.start.new.rounds c.look_over.ensures c.start.ensures in
+    let e = c.in_ok-size.ensures.0 in (
       record {
-        admitted = c.in-ok-rows.ensures.0;
+        admitted = c.in_ok-rows.ensures.0;
         roomy = (omega arith, omega arith);
         states = T.surveyed.states;
-        components = (part c.look-over.new.found, T.surveyed.components);
+        components = (part c.look_over.new.found, T.surveyed.components);
         labels = T.labels;
       },
       record { opened = refl; tabled = T },

@@ -5,8 +5,8 @@ use Rattle.merger.proofs.analysis.Analysis.step.Goals as goal
 pub advance-requires : goal.advance-requires
 advance-requires c = meant_bounded _ _ (c.args.self.now.meant c.requires.0)
 
-pub invariant-of-self : goal.invariant-of-self
-invariant-of-self c = ((λ e. meant_advanced _ _ (c.args.self.now.meant e) _ c.requires.1 c.advance.ensures), tt)
+pub invariant_of-self : goal.invariant_of-self
+invariant_of-self c = ((λ e. meant_advanced _ _ (c.args.self.now.meant e) _ c.requires.1 c.advance.ensures), tt)
 
 pub returns : goal.returns
 returns c = record {

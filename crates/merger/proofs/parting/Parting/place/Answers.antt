@@ -12,7 +12,7 @@ returns c =
     let wide = P.members_long in
     let tall = P.heads_long in
     let k = c.args.k in
-    elim c.match-find-like.branch [
+    elim c.match-find_like.branch [
       | in-Some w ↦ placed_old _ _ P.class P.members P.heads P.classes k c.requires.placed (omega arith) c.requires.bounds.0
           w.in-Some.j _ _ c.with-2.result _ w.into-is (ap (λ x. x.1.1.1.0) w.self-is) (ap (λ x. x.1.1.1.1.0) w.self-is)
           (omega arith) w.in-Some.ensures.0 w.in-Some.ensures.1 c.with-2.ensures

@@ -6,8 +6,8 @@ use Rattle.merger.specs.Tables.{words_of}
 use Rattle.merger.proofs.Blank.{blank, no_words}
 use Rattle.merger.proofs.reduced.Reduced.empty.Goals as goal
 
-pub invariant-of-result : goal.invariant-of-result
-invariant-of-result c = (
+pub invariant_of-result : goal.invariant_of-result
+invariant_of-result c = (
   omega arith,
   (
     omega arith,

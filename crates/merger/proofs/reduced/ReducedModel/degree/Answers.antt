@@ -3,5 +3,5 @@ use Rattle.sets.proofs.Members.{members_few}
 use Rattle.merger.specs.Grids.{set_at}
 use Rattle.merger.proofs.reduced.ReducedModel.degree.Goals as goal
 
-pub overflow-cast-result : goal.overflow-cast-result
-overflow-cast-result c = omega (arith, c.count.ensures, members_few (set_at c.args.self.now.moves c.args.s))
+pub overflow_cast-result : goal.overflow_cast-result
+overflow_cast-result c = omega (arith, c.count.ensures, members_few (set_at c.args.self.now.moves c.args.s))

@@ -7,8 +7,8 @@ use Rattle.merger.specs.Grids.{set_at}
 use Rattle.merger.proofs.Drawing.{nth-at, nth-move}
 use Rattle.merger.proofs.reduced.ReducedModel.target.Goals as goal
 
-pub overflow-cast-result : goal.overflow-cast-result
-overflow-cast-result c =
+pub overflow_cast-result : goal.overflow_cast-result
+overflow_cast-result c =
     let x = set_at c.args.self.now.moves c.args.s in
     let p = nth-at (members x) c.args.k c.in-Some.t c.in-Some.ensures in
     omega (arith, members_small x c.args.k 0 p.0, p.1)

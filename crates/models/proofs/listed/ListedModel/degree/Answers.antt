@@ -3,8 +3,8 @@ use Rattle.std.proofs.lemmas.List.{length-map}
 use Rattle.kripke.proofs.Tables.{table_row_short}
 use Rattle.models.proofs.listed.ListedModel.degree.Goals as goal
 
-pub overflow-cast-result : goal.overflow-cast-result
-overflow-cast-result g c = search (rules, table_row_short)
+pub overflow_cast-result : goal.overflow_cast-result
+overflow_cast-result g c = search (rules, table_row_short)
 
 pub returns : goal.returns
 returns g c = search (rules, length-map)
