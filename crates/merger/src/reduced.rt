@@ -7,7 +7,7 @@ ghost use Rattle.merger.specs.Tables.{words_of};
 ghost use Rattle.merger.specs.Filled.{filled, filled_formed};
 
 use models::facts::Facts;
-use models::{Label, Model};
+use models::{Label, Model as KripkeModel};
 use sets::Set;
 
 /// A model that an analysis fills. At first it has no states and no words.
@@ -24,7 +24,7 @@ pub struct Reduced {
     ghost lands: { (s j : ℕ) → In (set_at moves s) j → j < states },
 }
 
-pub impl Model for Reduced as ReducedModel {
+impl KripkeModel for Reduced {
     ghost means = { λ m. filled m.states m.words m.facts m.moves };
 
     ghost formed = { λ m. filled_formed m.states m.words m.facts m.moves m.few m.spoken m.within m.lands };

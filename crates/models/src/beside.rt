@@ -3,7 +3,7 @@ ghost use Rattle.std.specs.Prelude.{◌≡◌, ◌≤◌};
 ghost use Rattle.kripke.specs.Kinds.{beside, beside_size, shifted};
 ghost use Rattle.kripke.proofs.Sides.{beside_formed};
 
-use crate::Model;
+use crate::Model as KripkeModel;
 use crate::facts::Facts;
 use kripke::{LIMIT, NOWHERE};
 
@@ -14,7 +14,7 @@ pub struct SideBySide<A, B> {
     pub second: B,
 }
 
-pub impl<A: Model, B: Model> Model for SideBySide<A, B> as SideBySideModel {
+impl<A: KripkeModel, B: KripkeModel> KripkeModel for SideBySide<A, B> {
     ghost means = { λ m. beside (A.Model.means m.first) (B.Model.means m.second) };
 
     ghost formed = { λ m. beside_formed _ _ (A.Model.formed m.first) (B.Model.formed m.second) };

@@ -1,8 +1,8 @@
 //! A model that is lent, so that a layer can hold the one below by value or by reference.
-use crate::Model;
+use crate::Model as KripkeModel;
 use crate::facts::Facts;
 
-pub impl<M: Model> Model for &M as LentModel {
+impl<M: KripkeModel> KripkeModel for &M {
     ghost means = { λ m. M.Model.means m.now };
 
     ghost formed = { λ m. M.Model.formed m.now };

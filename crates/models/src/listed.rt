@@ -4,7 +4,7 @@ ghost use Rattle.kripke.specs.Kinds.{listed, listed_size, table_row, told};
 ghost use Rattle.kripke.proofs.Tables.{listed_formed};
 
 use crate::facts::Facts;
-use crate::{Label, Model};
+use crate::{Label, Model as KripkeModel};
 use kripke::{LIMIT, NOWHERE};
 
 // A label for each state, one offset more, and the targets of all rows, one row after the other. Any tables will do:
@@ -45,7 +45,7 @@ impl<L> Listed<'_, L> {
     }
 }
 
-pub impl<L: Label> Model for Listed<'_, L> as ListedModel {
+impl<L: Label> KripkeModel for Listed<'_, L> {
     ghost means = { λ m. listed L.Label.count L.Label.means m.labels.now m.offsets.now m.targets.now };
 
     ghost formed = { λ m. listed_formed L.Label.count L.Label.means m.labels.now m.offsets.now m.targets.now L.Label.lawful };

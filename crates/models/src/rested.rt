@@ -3,7 +3,7 @@ ghost use Rattle.std.specs.Prelude.{◌≡◌};
 ghost use Rattle.kripke.specs.Kinds.{rested, rests};
 ghost use Rattle.kripke.proofs.Rests.{rested_formed};
 
-use crate::Model;
+use crate::Model as KripkeModel;
 use crate::facts::Facts;
 
 // The model below, where a state with an empty row gets one move, to itself.
@@ -12,7 +12,7 @@ pub struct Rested<M> {
     pub below: M,
 }
 
-pub impl<M: Model> Model for Rested<M> as RestedModel {
+impl<M: KripkeModel> KripkeModel for Rested<M> {
     ghost means = { λ m. rested (M.Model.means m.below) };
 
     ghost formed = { λ m. rested_formed _ (M.Model.formed m.below) };
@@ -57,7 +57,7 @@ pub impl<M: Model> Model for Rested<M> as RestedModel {
 }
 
 // Whether `s` is a state with an empty row.
-fn is_at_rest<M: Model>(m: &M, s: u16) -> bool
+fn is_at_rest<M: KripkeModel>(m: &M, s: u16) -> bool
     ensures { result ≡ rests (M.Model.means m.now).frame s }
 {
     s < m.size() && m.degree(s) == 0

@@ -1,6 +1,6 @@
 use Rattle.std.proofs.Common.{rules}
 use Rattle.kripke.proofs.Rows.{move-map}
-use Rattle.models.proofs.beside.SideBySideModel.target.Goals as goal
+use Rattle.models.proofs.beside.SideBySideKripkeModel.target.Goals as goal
 
 pub returns-in-Some : goal.returns-in-Some
 returns-in-Some g c = search (rules, move-map)

@@ -1,7 +1,7 @@
 use Rattle.std.proofs.Common.{rules}
 use Rattle.std.proofs.lemmas.List.{length-map}
 use Rattle.kripke.proofs.Tables.{table_row_short}
-use Rattle.models.proofs.listed.ListedModel.degree.Goals as goal
+use Rattle.models.proofs.listed.ListedKripkeModel.degree.Goals as goal
 
 pub overflow_cast-result : goal.overflow_cast-result
 overflow_cast-result g c = search (rules, table_row_short)

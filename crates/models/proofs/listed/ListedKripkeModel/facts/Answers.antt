@@ -2,7 +2,7 @@ use Rattle.std.proofs.Common.{◌≡◌, ◌<◌, false, ltb, sym, ◌∙◌, ru
 use Rattle.std.proofs.lemmas.Bool.{cond-true, lt-ltb}
 use Rattle.kripke.specs.Kinds.{listed_size}
 use Rattle.kripke.proofs.Tables.{listed_words}
-use Rattle.models.proofs.listed.ListedModel.facts.Goals as goal
+use Rattle.models.proofs.listed.ListedKripkeModel.facts.Goals as goal
 
 pub returns-then-s-state_count : goal.returns-then-s-state_count
 returns-then-s-state_count g c a =

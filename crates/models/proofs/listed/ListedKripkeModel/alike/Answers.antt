@@ -1,7 +1,7 @@
 use Rattle.std.proofs.Common.{◌<◌, sym, ◌∙◌, rules}
 use Rattle.kripke.specs.Kinds.{listed_size}
 use Rattle.kripke.proofs.Tables.{listed_words}
-use Rattle.models.proofs.listed.ListedModel.alike.Goals as goal
+use Rattle.models.proofs.listed.ListedKripkeModel.alike.Goals as goal
 
 pub returns-then-t-n : goal.returns-then-t-n
 returns-then-t-n g c =

@@ -1,7 +1,7 @@
 use Rattle.std.proofs.Common.{◌<◌, rules}
 use Rattle.kripke.specs.Kinds.{listed_size}
 use Rattle.kripke.proofs.Tables.{listed_words}
-use Rattle.models.proofs.listed.ListedModel.holds.Goals as goal
+use Rattle.models.proofs.listed.ListedKripkeModel.holds.Goals as goal
 
 pub returns-then-s-state_count : goal.returns-then-s-state_count
 returns-then-s-state_count g c =

@@ -5,7 +5,7 @@ use Rattle.sets.proofs.Members.{members_small}
 use Rattle.kripke.specs.Models.{move}
 use Rattle.merger.specs.Grids.{set_at}
 use Rattle.merger.proofs.Drawing.{nth-at, nth-move}
-use Rattle.merger.proofs.reduced.ReducedModel.target.Goals as goal
+use Rattle.merger.proofs.reduced.ReducedKripkeModel.target.Goals as goal
 
 pub overflow_cast-result : goal.overflow_cast-result
 overflow_cast-result c =
