@@ -22,7 +22,7 @@ loop-k-preserved g c =
             subst (λ (y : Set). Begun row (k + 1) y) (sym w.row-is)
                 (begun_more row k t c.loop-k.row w.with-row.result at.1 low c.loop-k.invariant.1 w.with-row.ensures),
           )
-      | goal.in-default w ↦
+      | goal.in_default w ↦
           let none : None ≡ move row k = search rules in
           let more : k < length row = omega (arith, c.degree-degree.ensures) in
           absurd (no_move row k none more)

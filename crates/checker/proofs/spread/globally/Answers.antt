@@ -6,12 +6,12 @@ use Rattle.checker.proofs.spread.globally.Goals as goal
 
 pub loop-turn-preserved : goal.loop-turn-preserved
 loop-turn-preserved c =
-    lasts_more c.args.rows.now c.args.n c.args.f c.requires.1 c.loop-turn.-turn c.loop-turn.left c.and-fewer.result
+    lasts_more c.args.rows.now c.args.n c.args.f c.requires.1 c.loop-turn._turn c.loop-turn.left c.and-fewer.result
     c.loop-turn.invariant (λ s. over (c.and-fewer.ensures s) (c.before-in-loop-turn.ensures s))
 
 pub returns-then-eq : goal.returns-then-eq
 returns-then-eq c =
-    lasts_all c.args.rows.now c.args.n c.args.f c.requires.1 c.loop-turn.-turn c.loop-turn.left (omega arith) c.loop-turn.invariant
+    lasts_all c.args.rows.now c.args.n c.args.f c.requires.1 c.loop-turn._turn c.loop-turn.left (omega arith) c.loop-turn.invariant
     (λ s. subst (λ (y : ℕ). (bit y s ≡ 1) ↔ (In c.args.f s × Feeds c.args.rows.now c.loop-turn.left c.args.n s))
     (c.eq.ensures.0 c.if-eq.true)
     (over (c.and-fewer.ensures s) (c.before-in-loop-turn.ensures s)))

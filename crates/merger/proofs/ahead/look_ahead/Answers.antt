@@ -31,4 +31,4 @@ loop-k-preserved c =
 
 pub returns : goal.returns
 returns c = along_all (λ k x. (d : ℕ) → In x d ↔ Ahead (In (set_at c.args.moves.now k)) (at c.args.class.now) k d) c.args.wanted
-    c.loop-k.left c.loop-k.table (λ l h. none_in l (subst (λ (b : ℕ). On b l) c.in-default.ensures h)) c.loop-k.invariant.2
+    c.loop-k.left c.loop-k.table (λ l h. none_in l (subst (λ (b : ℕ). On b l) c.in_default.ensures h)) c.loop-k.invariant.2

@@ -22,4 +22,4 @@ loop-place-preserved c =
 
 pub returns : goal.returns
 returns c = looked_all _ _ c.loop-place.all c.loop-place.left
-    (λ l h. none_in l (subst (λ (b : ℕ). On b l) c.in-default.ensures h)) c.loop-place.invariant
+    (λ l h. none_in l (subst (λ (b : ℕ). On b l) c.in_default.ensures h)) c.loop-place.invariant

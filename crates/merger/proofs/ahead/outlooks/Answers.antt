@@ -33,4 +33,4 @@ loop-k-preserved c =
 
 pub returns : goal.returns
 returns c = along_all (λ k x. (d : ℕ) → In x d ↔ Outlook c.args.reach.now c.args.moves.now c.args.class.now c.args.count k d) c.args.wanted
-    c.loop-k.left c.loop-k.rows (λ l h. none_in l (subst (λ (b : ℕ). On b l) c.in-default.ensures h)) c.loop-k.invariant.2
+    c.loop-k.left c.loop-k.rows (λ l h. none_in l (subst (λ (b : ℕ). On b l) c.in_default.ensures h)) c.loop-k.invariant.2

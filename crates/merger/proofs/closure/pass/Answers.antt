@@ -39,4 +39,4 @@ loop-k-preserved c =
 
 pub returns : goal.returns
 returns c = passed_all _ _ _ c.loop-k.reach c.loop-k.left
-    (λ k h. none_in k (subst (λ (b : ℕ). On b k) c.in-default.ensures h)) c.loop-k.invariant.1
+    (λ k h. none_in k (subst (λ (b : ℕ). On b k) c.in_default.ensures h)) c.loop-k.invariant.1

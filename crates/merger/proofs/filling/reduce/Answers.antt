@@ -5,7 +5,7 @@ use Rattle.merger.specs.Grids.{at, set_at}
 use Rattle.merger.proofs.Blank.{blank}
 use Rattle.merger.proofs.Drawing.{Sketched, sketched_more, sketched_within, sketched_lands}
 use Rattle.merger.proofs.filling.reduce.Goals as goal
-use Rattle.merger.proofs.filling.reduce.Goals.{in-Some, in-default}
+use Rattle.merger.proofs.filling.reduce.Goals.{in-Some, in_default}
 
 pub loop-c-init : goal.loop-c-init
 loop-c-init c = record {
@@ -33,7 +33,7 @@ loop-c-preserved c =
           subst (λ (x : List ℕ). Sketched F S rows x m.moves (n + 1)) (sym w.facts-is)
           (subst (λ (y : List Set). Sketched F S rows (set c.loop-c.facts n (at F.facts k)) y (n + 1)) (sym w.moves-is)
           (sketched_more F S rows c.loop-c.facts c.loop-c.moves n k room g.0 g.1 c.loop-c.invariant))
-      | in-default w ↦ absurd (B.some n low w.in-default.ensures)
+      | in_default w ↦ absurd (B.some n low w.in_default.ensures)
     ]
 
 pub invariant_of-result : goal.invariant_of-result

@@ -27,6 +27,6 @@ loop-j-preserved c =
 
 pub returns : goal.returns
 returns c j h same = ⊎_elim
-    (λ l. none_in j (subst (λ (b : ℕ). On b j) c.in-default.ensures l))
+    (λ l. none_in j (subst (λ (b : ℕ). On b j) c.in_default.ensures l))
     (λ n. n same)
     (c.loop-j.invariant.1 j h)

@@ -22,4 +22,4 @@ loop-l-preserved c =
 
 pub returns : goal.returns
 returns c = cleared_all _ _ c.loop-l.row c.loop-l.left
-    (λ l h. none_in l (subst (λ (b : ℕ). On b l) c.in-default.ensures h)) c.loop-l.invariant.2
+    (λ l h. none_in l (subst (λ (b : ℕ). On b l) c.in_default.ensures h)) c.loop-l.invariant.2

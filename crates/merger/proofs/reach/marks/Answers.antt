@@ -26,5 +26,5 @@ pub returns : goal.returns
 returns c l =
     let m = c.loop-l.invariant.2 l in (
       (λ e. (m.0 e).0),
-      (λ h. m.1 (h, λ r. none_in l (subst (λ (b : ℕ). On b l) c.in-default.ensures r))),
+      (λ h. m.1 (h, λ r. none_in l (subst (λ (b : ℕ). On b l) c.in_default.ensures r))),
     )

@@ -32,7 +32,7 @@ returns g c =
     let inside : c.args.root < length c.args.self.now.place = omega (arith, c.requires.root.0, c.requires.size, c.args.self.now.sized) in
     record {
       going = c.loop-top.invariant.0;
-      over = c.in-default.ensures;
+      over = c.in_default.ensures;
       seen = λ s u. entered _ _ c.args.root _ inside c.enter.ensures.place s (c.loop-top.invariant.1 s u);
       rooms = (c.loop-top.invariant.2 ∙ c.enter.ensures.rooms.0, c.loop-top.invariant.3 ∙ c.enter.ensures.rooms.1);
     }
