@@ -1,4 +1,5 @@
-use Rattle.std.proofs.Common.{◌≡◌, ℕ, ◌↔◌, subst, arith}
+use Rattle.std.proofs.Common.{◌≡◌, ℕ, ◌↔◌, sym, ◌∙◌, subst, arith}
+use Rattle.std.proofs.lemmas.Bool.{eqb-true}
 use Rattle.sets.specs.Sets.{In, bit}
 use Rattle.checker.specs.Tables.{Feeds}
 use Rattle.checker.proofs.Spreads.{lasts_more, lasts_all, over}
@@ -13,5 +14,5 @@ pub returns-then-eq : goal.returns-then-eq
 returns-then-eq c =
     lasts_all c.args.rows.now c.args.n c.args.f c.requires.1 c.loop-turn._turn c.loop-turn.left (omega arith) c.loop-turn.invariant
     (λ s. subst (λ (y : ℕ). (bit y s ≡ 1) ↔ (In c.args.f s × Feeds c.args.rows.now c.loop-turn.left c.args.n s))
-    (c.eq.ensures.0 c.if-eq.true)
+    (eqb-true _ _ (sym c.eq.ensures ∙ c.if-eq.true))
     (over (c.and-fewer.ensures s) (c.before-in-loop-turn.ensures s)))

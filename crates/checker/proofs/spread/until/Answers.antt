@@ -1,4 +1,5 @@
-use Rattle.std.proofs.Common.{◌≡◌, ℕ, subst, inl, inr, ⊎_elim}
+use Rattle.std.proofs.Common.{◌≡◌, ℕ, sym, ◌∙◌, subst, inl, inr, ⊎_elim}
+use Rattle.std.proofs.lemmas.Bool.{eqb-true}
 use Rattle.sets.specs.Sets.{bit}
 use Rattle.checker.specs.Tables.{Feeds}
 use Rattle.checker.proofs.Spreads.{until_all, until_more, over}
@@ -8,7 +9,7 @@ pub returns-then-eq : goal.returns-then-eq
 returns-then-eq c s h = (
   c.grow.invariant.1 s,
   λ p. until_all c.args.rows.now c.args.n c.args.f c.requires.1 c.args.g c.grow.found c.grow.invariant.0
-      (λ t q. subst (λ (y : ℕ). bit y t ≡ 1) (c.eq.ensures.0 c.if-eq.true)
+      (λ t q. subst (λ (y : ℕ). bit y t ≡ 1) (eqb-true _ _ (sym c.eq.ensures ∙ c.if-eq.true))
       ((c.or-more.ensures.means t).1 (inr ((over (c.and.ensures t) (c.before-in-grow.ensures t)).1 q))))
       p.0 s h p.1,
 )

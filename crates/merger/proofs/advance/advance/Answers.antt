@@ -1,5 +1,5 @@
 use Rattle.std.proofs.Common.{◌≡◌, refl}
-use Rattle.std.proofs.lemmas.Bool.{both_ways}
+use Rattle.std.proofs.lemmas.Bool.{eqb-true, eqb-false}
 use Rattle.merger.proofs.Advancing.{numbering_as, wanted_low, wanted_class, like_together, cut_parted}
 use Rattle.merger.proofs.advance.advance.Goals as goal
 
@@ -31,6 +31,6 @@ returns c =
       classes = numbering_as _ _ _ _ _ (like_together F S B w s c.outlooks-rows.result c.outlooks-rows.ensures) c.part-parting.ensures.numbers;
       groups = c.part-parting.ensures.groups;
       reach = cut_parted F S B w s c.narrow.new.reach p.class p.members c.part-parting.ensures.groups c.narrow.ensures;
-      ends = c.parted-nothing-rounds.ensures.0;
-      goes = λ going same. both_ways _ going (c.parted-nothing-rounds.ensures.1 same);
+      ends = eqb-true _ _;
+      goes = eqb-false _ _;
     }

@@ -44,7 +44,12 @@ invariant_of-result c =
     let B = c.requires.bounds in
     let e : c.loop-c.c ≡ S.classes = omega arith in
     let K = subst (λ n. Sketched F S rows c.loop-c.facts c.loop-c.moves n) e c.loop-c.invariant in
-    (B.most, (B.spoken, (sketched_within F S rows B _ _ K, (sketched_lands F S rows B _ _ K c.requires.rows, tt))))
+    record {
+      few = B.most;
+      spoken = B.spoken;
+      within = sketched_within F S rows B _ _ K;
+      lands = sketched_lands F S rows B _ _ K c.requires.rows;
+    }
 
 pub returns : goal.returns
 returns c =

@@ -26,7 +26,7 @@ start-requires g c =
     record { few = omega arith }
 
 pub invariant_of-self : goal.invariant_of-self
-invariant_of-self g c = ((λ e. ∣ (g.M.Model.means c.args.model.now, 0, begun _ _ _ c.look_over.ensures c.start.ensures) ∣₁), tt)
+invariant_of-self g c = record { meant = λ e. ∣ (g.M.Model.means c.args.model.now, 0, begun _ _ _ c.look_over.ensures c.start.ensures) ∣₁ }
 
 pub returns : goal.returns
 returns g c =

@@ -6,7 +6,7 @@ pub advance-requires : goal.advance-requires
 advance-requires c = meant_bounded _ _ (c.args.self.now.meant c.requires.0)
 
 pub invariant_of-self : goal.invariant_of-self
-invariant_of-self c = ((λ e. meant_advanced _ _ (c.args.self.now.meant e) _ c.requires.1 c.advance.ensures), tt)
+invariant_of-self c = record { meant = λ e. meant_advanced _ _ (c.args.self.now.meant e) _ c.requires.1 c.advance.ensures }
 
 pub returns : goal.returns
 returns c = record {
