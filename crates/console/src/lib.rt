@@ -1,5 +1,6 @@
 //! What the programs share: a file on standard input, tables for any model file, and the fault line.
 use crate::advice::advice;
+use anyhow::anyhow;
 use modelfile::LONGEST;
 use modelfile::faults::FaultNumbers;
 use models::facts::Facts;
@@ -65,7 +66,7 @@ pub fn wants_help(rt: &HostRuntime) -> anyhow::Result<bool> {
 /// Says on standard error that arguments are not understood, and what to do instead. The error is for `main` to end with.
 pub fn refuse(rt: &HostRuntime, words: &str, instead: &str) -> anyhow::Error {
     let _ = eprintln!(rt; "'{words}' is not understood: {instead}");
-    "the arguments are not understood".into()
+    anyhow!("the arguments are not understood")
 }
 
 /// Refuses arguments, for a program that takes none but `help`.
