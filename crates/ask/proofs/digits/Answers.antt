@@ -18,23 +18,23 @@ returns-in-49-to-57 c =
 pub returns-in_default : goal.returns-in_default
 returns-in_default c = read_none c.args.text.now (λ n h f. ⊎_elim (λ s. omega (arith, ltb-true, ltb-false, s.0, s.1, s.2)) (λ s. omega (arith, ltb-true, ltb-false, s.0, s.1, s.2)) f)
 
-pub returns-in_default·2 : goal.returns-in_default·2
-returns-in_default·2 c = read_none c.args.text.now (λ n h f. ⊎_elim (λ s. omega (arith, ltb-true, ltb-false, s.0, s.1, s.2)) (λ s. omega (arith, ltb-true, ltb-false, s.0, s.1, s.2)) f)
+pub returns-in_default-2 : goal.returns-in_default-2
+returns-in_default-2 c = read_none c.args.text.now (λ n h f. ⊎_elim (λ s. omega (arith, ltb-true, ltb-false, s.0, s.1, s.2)) (λ s. omega (arith, ltb-true, ltb-false, s.0, s.1, s.2)) f)
 
-pub returns-in_default·3 : goal.returns-in_default·3
-returns-in_default·3 c = read_none c.args.text.now (λ n h f. ⊎_elim (λ s. omega (arith, ltb-true, ltb-false, s.0, s.1, s.2)) (λ s. omega (arith, ltb-true, ltb-false, s.0, s.1, s.2)) f)
+pub returns-in_default-3 : goal.returns-in_default-3
+returns-in_default-3 c = read_none c.args.text.now (λ n h f. ⊎_elim (λ s. omega (arith, ltb-true, ltb-false, s.0, s.1, s.2)) (λ s. omega (arith, ltb-true, ltb-false, s.0, s.1, s.2)) f)
 
-pub returns-in_default·4 : goal.returns-in_default·4
-returns-in_default·4 c = read_none c.args.text.now (λ n h f. ⊎_elim (λ s. omega (arith, ltb-true, ltb-false, s.0, s.1, s.2)) (λ s. omega (arith, ltb-true, ltb-false, s.0, s.1, s.2)) f)
+pub returns-in_default-4 : goal.returns-in_default-4
+returns-in_default-4 c = read_none c.args.text.now (λ n h f. ⊎_elim (λ s. omega (arith, ltb-true, ltb-false, s.0, s.1, s.2)) (λ s. omega (arith, ltb-true, ltb-false, s.0, s.1, s.2)) f)
 
-pub returns-in_default·5 : goal.returns-in_default·5
-returns-in_default·5 c = read_none c.args.text.now (λ n h f. ⊎_elim (λ s. omega (arith, ltb-true, ltb-false, s.0, s.1, s.2)) (λ s. omega (arith, ltb-true, ltb-false, s.0, s.1, s.2)) f)
+pub returns-in_default-5 : goal.returns-in_default-5
+returns-in_default-5 c = read_none c.args.text.now (λ n h f. ⊎_elim (λ s. omega (arith, ltb-true, ltb-false, s.0, s.1, s.2)) (λ s. omega (arith, ltb-true, ltb-false, s.0, s.1, s.2)) f)
 
-pub returns-in_default·6 : goal.returns-in_default·6
-returns-in_default·6 c = read_none c.args.text.now (λ n h f. ⊎_elim (λ s. omega (arith, ltb-true, ltb-false, s.0, s.1, s.2)) (λ s. omega (arith, ltb-true, ltb-false, s.0, s.1, s.2)) f)
+pub returns-in_default-6 : goal.returns-in_default-6
+returns-in_default-6 c = read_none c.args.text.now (λ n h f. ⊎_elim (λ s. omega (arith, ltb-true, ltb-false, s.0, s.1, s.2)) (λ s. omega (arith, ltb-true, ltb-false, s.0, s.1, s.2)) f)
 
-pub returns-in_default·7 : goal.returns-in_default·7
-returns-in_default·7 c = read_none c.args.text.now (λ n h f. ⊎_elim (λ s. omega (arith, ltb-true, ltb-false, s.0, s.1, s.2)) (λ s. omega (arith, ltb-true, ltb-false, s.0, s.1, s.2)) f)
+pub returns-in_default-7 : goal.returns-in_default-7
+returns-in_default-7 c = read_none c.args.text.now (λ n h f. ⊎_elim (λ s. omega (arith, ltb-true, ltb-false, s.0, s.1, s.2)) (λ s. omega (arith, ltb-true, ltb-false, s.0, s.1, s.2)) f)
 
-pub returns-in_default·8 : goal.returns-in_default·8
-returns-in_default·8 c = read_none c.args.text.now (λ n h f. ⊎_elim (λ s. omega (arith, ltb-true, ltb-false, s.0, s.1, s.2)) (λ s. omega (arith, ltb-true, ltb-false, s.0, s.1, s.2)) f)
+pub returns-in_default-8 : goal.returns-in_default-8
+returns-in_default-8 c = read_none c.args.text.now (λ n h f. ⊎_elim (λ s. omega (arith, ltb-true, ltb-false, s.0, s.1, s.2)) (λ s. omega (arith, ltb-true, ltb-false, s.0, s.1, s.2)) f)
