@@ -4,8 +4,8 @@ planted/CRATE.txt holds the bugs, in blocks of four lines (name:, file:, old:, n
 once in the file. For each it prints its name, whether it is refused or PROVED, and the place of the first error.
 With --write the crate's section of docs/PLANTED.md is brought up to date; a bug that was not tried keeps its outcome.
 
-The bugs are planted in a copy of the repository outside it. What target/ has of the crate and of those it builds on is
-copied too, so that each try only proves again what the bug touches: after `rt check CRATE` a try takes seconds."""
+The bugs are planted in a copy of the repository outside it. What out/ has of the crate and of those it builds on is copied
+too, so that each try only proves again what the bug touches: after `rt check` in the crate's folder a try takes seconds."""
 import pathlib
 import re
 import shutil
@@ -43,25 +43,21 @@ def below(crate):
 
 def copied(crate, copy):
     """Copies the sources, and what is proved already of the crate and of those below it."""
-    shutil.copytree(top / "crates", copy / "crates", ignore=shutil.ignore_patterns("must-fail"))
     shutil.copy(top / "crates.txt", copy)
     for name in below(crate):
-        for part in [f"rlib/{name}.rlib", f"stamp/{name}"] + ([f"inc/{name}"] if name == crate else []):
-            was, to = top / "target" / part, copy / "target" / part
-            to.parent.mkdir(parents=True, exist_ok=True)
-            if was.is_dir():
-                shutil.copytree(was, to)
-            elif was.is_file():
-                shutil.copy(was, to)
+        if (top / "crates" / name).is_dir():
+            shutil.copytree(top / "crates" / name, copy / "crates" / name, ignore=shutil.ignore_patterns("must-fail"))
 
 
 def checked(crate, copy):
     """Whether the crate in the copy is proved: True, False, or None where the compiler refuses it; and what was said."""
-    run = subprocess.run(["rt", "dev", crate], cwd=copy, capture_output=True, text=True)
+    run = subprocess.run(["rt", "check"], cwd=copy / "crates" / crate, capture_output=True, text=True)
     said = run.stdout + run.stderr
-    if run.returncode == 0 and re.search(r"^logic=proved ", said, re.M):
+    # a line for each crate that was checked, this one's last
+    verdicts = re.findall(r"^logic=(\S+)", said, re.M)
+    if run.returncode == 0 and verdicts and verdicts[-1] == "proved":
         return True, said
-    if run.returncode == 1 and re.search(r"^logic=not-proved", said, re.M):
+    if run.returncode == 1 and verdicts and verdicts[-1] == "not-proved":
         return False, said
     return None, said
 
@@ -69,7 +65,7 @@ def checked(crate, copy):
 def first_error(said, folder):
     """The place of the first error, seen from the crate's folder."""
     at = re.search(r"^([^ \n]+:\d+:\d+): error", said, re.M) or re.search(r"^note: ([^ \n]+:\d+:\d+):", said, re.M)
-    return at.group(1).replace(f"{folder}/", "") if at else "no place"
+    return at.group(1).replace(f"{folder}/", "").removeprefix("./") if at else "no place"
 
 
 def tried(bug, crate, copy):

@@ -1,11 +1,11 @@
 -- Steps denote one formula at most, and those that are readable are just those that denote one.
-use Rattle.std.proofs.Common.{◌≡◌, ℕ, zero, suc, ◌+◌, ◌-◌, ◌<◌, ◌≤◌, ◌↔◌, List, [], ◌∷◌, ◌++◌, length, get_or, take, sym, refl, ap, ◌∙◌, subst, add-one, arith}
+use Rattle.std.proofs.Common.{◌≡◌, ℕ, zero, suc, ◌+◌, ◌-◌, ◌<◌, ◌≤◌, List, [], ◌∷◌, ◌++◌, length, get_or, take, sym, refl, ap, ◌∙◌, subst, add-one, arith}
 use Rattle.std.proofs.lemmas.List.{append_assoc, append-nil, take_all}
 use Rattle.kripke.specs.Formulas.{Formula, top, word, neg, or, until, globally}
 use Rattle.checker.specs.declared.steps.Step.{Step}
 use Rattle.checker.specs.declared.steps.Step.TheVariants.{True, Word, Not, Or, Until, Globally}
 use Rattle.checker.specs.Steps.{postfix, Denotes, Utters}
-use Rattle.checker.specs.Reading.{Known, Fine, FineBelow, Counted, Readable, takes, left_by, operands, step_at}
+use Rattle.checker.specs.Reading.{Known, Fine, FineBelow, Readable, takes, left_by, operands, step_at}
 use Rattle.checker.specs.Claims.{OneFormula, ReadableFormulas}
 use Rattle.checker.proofs.Counts.{operands_more, operands-all}
 use Rattle.checker.proofs.Spelling.{made, spelled, spelled_more, put, put_below}

@@ -1,5 +1,5 @@
 -- Truth carried over to other moves and other operands, among the states below n.
-use Rattle.std.proofs.Common.{ℕ, zero, suc, ◌<◌, ◌≤◌, ◌⊎◌, ◌↔◌, inl, inr, ⊎_elim, arith}
+use Rattle.std.proofs.Common.{ℕ, zero, suc, ◌<◌, ◌≤◌, ◌↔◌, inl, inr, ⊎_elim, arith}
 use Rattle.kripke.specs.Words.{Words}
 use Rattle.kripke.specs.Models.{Kripke}
 use Rattle.kripke.specs.Paths.{Until as Ends, Stays, Move}

@@ -1,5 +1,5 @@
 -- When a check is made, what it then does, and why it is not made.
-use Rattle.std.specs.Prelude.{◌≡◌, ℕ, ◌<◌, ◌≤◌, List, length}
+use Rattle.std.specs.Prelude.{ℕ, ◌<◌, ◌≤◌, List, length}
 use Rattle.kripke.specs.Models.{Kripke}
 use Rattle.kripke.specs.Formulas.{Formula}
 use Rattle.survey.specs.Gaps.{Gaps, Admitted, gap_cause, gap_place, gap_move}

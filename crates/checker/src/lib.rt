@@ -1,4 +1,6 @@
 //! A formula put to a model: in which states is it true?
+#![tactic(auto)]
+
 ghost use Rattle.std.specs.Prelude.{◌≡◌, ℕ, ◌<◌, ◌≤◌, length, MatchResult, slice_index};
 ghost use Rattle.sets.specs.Sets.{bit};
 ghost use Rattle.checker.specs.declared.steps.Refused.TheVariants.{Model as of-model, Steps as of_steps};

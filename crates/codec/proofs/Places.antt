@@ -1,7 +1,7 @@
 -- What is written over a list, and what is then written behind it.
 use Rattle.std.proofs.Common.{◌≡◌, ℕ, suc, ◌+◌, ◌<◌, ◌≤◌, List, [], ◌∷◌, ◌++◌, length, take, drop, set, sym, refl, ap, ◌∙◌, add-zero, add_assoc, arith}
 use lib.Seq.{paste}
-use Rattle.std.proofs.lemmas.List.{append_assoc, drop_at, drop-drop, drop-set-lt, length-append, length-drop, length-take-le, set_split, take_all, take-append-drop, take_at, take_more_set, drop-append-le, take-take}
+use Rattle.std.proofs.lemmas.List.{append_assoc, drop_at, drop-drop, drop-set-lt, length-append, length-drop, length-take-le, set_split, take_all, take-append-drop, take_at, take_more_set}
 use Rattle.codec.specs.Pieces.{placed}
 
 module _ {X : Type 0} where

@@ -1,10 +1,10 @@
 -- What stands at the front of some bytes, and at a place of a file.
-use Rattle.std.proofs.Common.{◌≡◌, ℕ, zero, suc, ◌+◌, ◌-◌, ◌*◌, ◌/◌, ◌%◌, ◌^◌, ◌<◌, ◌≤◌, ◌⊎◌, List, [], ◌∷◌, ◌++◌, length, get_or, take, drop, set, Some, Ok, Err, Result, sym, refl, ap, ◌∙◌, subst, inl, inr, pow-suc, add-one, arith}
-use Rattle.std.proofs.lemmas.List.{append_assoc, append_cancel_left, length-append, length-take-le, take-append-drop, take_at, drop_all, take_all, take_more, drop-drop}
+use Rattle.std.proofs.Common.{◌≡◌, ℕ, zero, suc, ◌+◌, ◌-◌, ◌*◌, ◌/◌, ◌%◌, ◌^◌, ◌<◌, ◌≤◌, ◌⊎◌, List, [], ◌∷◌, ◌++◌, length, get_or, take, drop, set, Ok, Err, sym, refl, ap, ◌∙◌, subst, inl, inr, pow-suc, add-one, arith}
+use Rattle.std.proofs.lemmas.List.{append_assoc, append_cancel_left, length-append, length-take-le, take-append-drop, take_at, drop_all, take_more}
 use Rattle.std.proofs.lemmas.Bool.{cases_lt}
 use Rattle.codec.specs.Numbers.{code}
 use Rattle.codec.specs.Pieces.{placed}
-use Rattle.codec.specs.Reading.{Endless, Begins, Refused, RefusedBelow, Stands, Wrong, located, Reads, OneReading, WrittenReadsBack, ReadRewrites}
+use Rattle.codec.specs.Reading.{Endless, Begins, Refused, RefusedBelow, Stands, Wrong, located, OneReading, WrittenReadsBack, ReadRewrites}
 use Rattle.codec.specs.declared.numbers.Flaw.{Flaw}
 use Rattle.codec.specs.declared.numbers.Flaw.TheVariants.{CutShort, NotFewest}
 use Rattle.codec.specs.declared.numbers.NumberFault.{NumberFault}

@@ -1,5 +1,5 @@
 -- What stands at a place of some bytes: a number in its fewest bytes, or what is wrong there.
-use Rattle.std.specs.Prelude.{◌≡◌, ℕ, ◌+◌, ◌^◌, ◌<◌, ◌≤◌, List, [], ◌∷◌, ◌++◌, length, take, drop, Some, Ok, Result, MatchResult}
+use Rattle.std.specs.Prelude.{◌≡◌, ℕ, ◌^◌, ◌<◌, ◌≤◌, List, [], ◌∷◌, ◌++◌, length, take, drop, Some, Ok, Result, MatchResult}
 use Rattle.codec.specs.Numbers.{code}
 use Rattle.codec.specs.Pieces.{Writes}
 use Rattle.codec.specs.declared.numbers.Flaw.{Flaw}

@@ -1,4 +1,6 @@
 //! Numbers and text in lent buffers: how each is written at a place, and how a number is read back.
+#![tactic(auto)]
+
 ghost use Rattle.std.specs.Prelude.{◌+◌, ◌<◌, ◌≤◌, MatchBool};
 
 pub mod numbers;

@@ -1,13 +1,13 @@
 -- The walk leaves a state from which no lower one is reached: what stands from it up is a component.
-use Rattle.std.proofs.Common.{◌≡◌, ℕ, ◌+◌, ◌<◌, ◌≤◌, min, ◌⊎◌, List, [], ◌∷◌, length, get_or, sym, refl, ap, ◌∙◌, subst, inl, inr, ⊎_elim, arith}
+use Rattle.std.proofs.Common.{◌≡◌, ℕ, ◌+◌, ◌<◌, ◌≤◌, ◌⊎◌, List, [], ◌∷◌, length, sym, refl, ap, ◌∙◌, subst, inl, inr, ⊎_elim, arith}
 use Rattle.std.specs.List.{AllByRecursion as All}
-use Rattle.std.proofs.lemmas.Bool.{cases_eq, cases_lt}
-use Rattle.components.specs.Reach.{Reach, Edge, Leads, stop, go, target}
-use Rattle.components.specs.Walks.{Any, Climbs, Mark, Back, Pending, Covers, Settled, IsDone, Listed, Inv, Turned}
+use Rattle.std.proofs.lemmas.Bool.{cases_lt}
+use Rattle.components.specs.Reach.{Edge, Leads, target}
+use Rattle.components.specs.Walks.{Mark, Pending, Settled, IsDone, Listed, Inv, Turned}
 use Rattle.components.specs.declared.marks.Place.{Place}
 use Rattle.components.specs.declared.marks.Place.TheVariants.{Unseen, Open, Done}
 use Rattle.components.specs.declared.marks.Walk.{Walk}
-use Rattle.components.proofs.Laws.{join, along, any-map, any-all, all_map, open_open, open_done, unseen_open, unseen_done, to_top}
+use Rattle.components.proofs.Laws.{join, along, open_open, open_done, unseen_open, unseen_done, to_top}
 
 done_is : (p : Place) → IsDone p → (d : ℕ) × (p ≡ Done d)
 done_is Unseen h = absurd h

@@ -1,13 +1,12 @@
 -- A step of the walk onto a state that is not met yet.
-use Rattle.std.proofs.Common.{◌≡◌, ℕ, ◌+◌, ◌<◌, ◌≤◌, ◌⊎◌, List, [], ◌∷◌, length, get_or, sym, refl, ap, ◌∙◌, subst, inl, inr, ⊎_elim, arith}
-use Rattle.std.specs.List.{AllByRecursion as All}
+use Rattle.std.proofs.Common.{◌≡◌, ℕ, ◌<◌, ◌≤◌, ◌⊎◌, List, [], ◌∷◌, length, sym, ap, ◌∙◌, subst, inl, inr, ⊎_elim, arith}
 use Rattle.std.proofs.lemmas.Bool.{cases_eq, cases_lt}
-use Rattle.components.specs.Reach.{Reach, Edge, Leads, stop, go, target}
-use Rattle.components.specs.Walks.{Any, Climbs, Mark, Back, Pending, Covers, Settled, IsDone, Placed, At, Inv, fresh, marked}
+use Rattle.components.specs.Reach.{Leads, stop, go, target}
+use Rattle.components.specs.Walks.{Mark, Back, Pending, Settled, IsDone, Placed, Inv, fresh, marked}
 use Rattle.components.specs.declared.marks.Place.{Place}
 use Rattle.components.specs.declared.marks.Place.TheVariants.{Unseen, Open, Done}
 use Rattle.components.specs.declared.marks.Walk.{Walk}
-use Rattle.components.proofs.Laws.{join, any-map, all_map, at-below, unseen_open, unseen_done, open_done, open_open, to_top}
+use Rattle.components.proofs.Laws.{join, all_map, at-below, unseen_open, unseen_done, open_done, open_open, to_top}
 
 -- the next move of the top is looked at
 abbrev on : Walk → Walk

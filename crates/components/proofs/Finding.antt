@@ -1,5 +1,5 @@
 -- What the walk has found are the components, and those that hold a cycle.
-use Rattle.std.proofs.Common.{◌≡◌, ℕ, zero, suc, ◌<◌, ◌≤◌, Bool, true, false, cond, ◌⊎◌, ◌↔◌, List, length, get_or, sym, refl, ap, ◌∙◌, subst, inl, inr, ⊎_elim, arith}
+use Rattle.std.proofs.Common.{◌≡◌, ℕ, zero, suc, ◌<◌, true, cond, ◌⊎◌, ◌↔◌, List, length, get_or, sym, ap, ◌∙◌, subst, inl, inr, ⊎_elim, arith}
 use Rattle.std.proofs.lemmas.List.{length-map, get_or-map}
 use Rattle.std.proofs.lemmas.Bool.{cases_eq, cases_lt, cases_Bool, cond-true, cond-false}
 use Rattle.sets.specs.declared.Set.{Set}
@@ -8,14 +8,13 @@ use Rattle.kripke.specs.Models.{Frame, Kripke, WellFormed, Alike, nowhere}
 use Rattle.kripke.specs.Equivalence.{Equivalence}
 use Rattle.kripke.specs.Paths.{Move, Trail}
 use Rattle.kripke.specs.Relation.{ST}
-use Rattle.kripke.specs.Numbering.{Numbering}
 use Rattle.kripke.specs.Components.{Components, Cyclic, States, numbered}
 use Rattle.kripke.proofs.Paths.{trail_first}
 use Rattle.kripke.proofs.Rounds.{st_own, st_more, st_join, alike_equivalence}
 use Rattle.kripke.proofs.Components.{Mutual, mutual_components, numbered-part, part-numbered, cyclic_move}
-use Rattle.components.specs.Reach.{Reach, Edge, Leads, stop, go, target}
+use Rattle.components.specs.Reach.{Edge, Leads, stop, go, target}
 use Rattle.components.specs.Inner.{like, inner}
-use Rattle.components.specs.Walks.{Searched, spot}
+use Rattle.components.specs.Walks.{Searched}
 use Rattle.components.specs.Found.{Finds}
 use Rattle.components.specs.Numbers.{number, Together, Twice, Turns, Numbered}
 use Rattle.components.specs.declared.marks.Place.{Place}

@@ -1,8 +1,8 @@
 -- Laws of paths, places and walks.
-use Rattle.std.proofs.Common.{◌≡◌, ℕ, ◌+◌, ◌<◌, ◌≤◌, ◌⊎◌, List, [], ◌∷◌, length, get_or, sym, refl, ap, ◌∙◌, subst, inl, inr, ⊎_elim, arith}
+use Rattle.std.proofs.Common.{◌≡◌, ℕ, ◌<◌, ◌≤◌, List, [], ◌∷◌, length, inl, inr, ⊎_elim, arith}
 use Rattle.std.specs.List.{AllByRecursion as All}
-use Rattle.components.specs.Reach.{Reach, Edge, Leads, stop, go, target}
-use Rattle.components.specs.Walks.{Any, Climbs, Mark, Back, Pending, Covers, Settled, IsDone, Placed, At, Inv}
+use Rattle.components.specs.Reach.{Reach, Leads, stop, go}
+use Rattle.components.specs.Walks.{Any, Mark, Back, At, Inv}
 use Rattle.components.specs.declared.marks.Place.{Place}
 use Rattle.components.specs.declared.marks.Place.TheVariants.{Unseen, Open, Done}
 use Rattle.components.specs.declared.marks.Walk.{Walk}

@@ -1,16 +1,15 @@
 -- Numbers by first member, given to one state after the other.
-use Rattle.std.proofs.Common.{◌≡◌, ℕ, ◌+◌, ◌<◌, ◌≤◌, ◌⊎◌, ◌↔◌, List, length, get_or, set, replicate, Some, None, Option, sym, refl, ap, ◌∙◌, subst, inl, inr, ⊎_elim, arith}
+use Rattle.std.proofs.Common.{◌≡◌, ℕ, ◌+◌, ◌<◌, ◌≤◌, ◌⊎◌, ◌↔◌, List, length, get_or, set, replicate, Some, None, Option, sym, refl, ap, ◌∙◌, inl, inr, ⊎_elim, arith}
 use Rattle.std.proofs.lemmas.List.{get_or-set_same, get_or-set_other, get_or-replicate, get_or_past, length-replicate, length-set}
 use Rattle.std.proofs.lemmas.Bool.{cases_eq, cases_lt}
 use Rattle.sets.specs.declared.Set.{Set}
 use Rattle.sets.specs.Sets.{In, none}
 use Rattle.sets.proofs.Bits.{none_in}
-use Rattle.kripke.specs.Numbering.{Numbering}
 use Rattle.kripke.proofs.Numbering.{number-none, number_old, number_new}
 use Rattle.components.specs.Walks.{spot}
 use Rattle.components.specs.Numbers.{number, Together, Twice, Numbered}
 use Rattle.components.specs.declared.marks.Place.{Place}
-use Rattle.components.specs.declared.marks.Place.TheVariants.{Unseen, Open, Done}
+use Rattle.components.specs.declared.marks.Place.TheVariants.{Done}
 
 -- the first s states have their numbers, and given has the number of each component that has one
 pub record Giving (place : List Place) (s : ℕ) (part₀ part : List ℕ) (given : List (Option ℕ)) (count : ℕ) (many : Set) : Type 0 where

@@ -4,7 +4,7 @@ use Rattle.std.proofs.lemmas.Bool.{cases_eq, cases_lt}
 use Rattle.std.proofs.lemmas.List.{get_or-set_same, get_or-set_other}
 use Rattle.kripke.specs.Models.{Frame}
 use Rattle.components.specs.Reach.{target}
-use Rattle.components.specs.Walks.{Inv, Fit, Going, Next, Follows, Shuts, spot, unmet, unseen, left_over, marked, fresh, lowest_top}
+use Rattle.components.specs.Walks.{Inv, Fit, Going, Next, Follows, Shuts, spot, unmet, unseen, marked, fresh, lowest_top}
 use Rattle.components.specs.declared.marks.Place.{Place}
 use Rattle.components.specs.declared.marks.Place.TheVariants.{Unseen, Open, Done}
 use Rattle.components.specs.declared.marks.Walk.{Walk}

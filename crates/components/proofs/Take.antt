@@ -1,11 +1,11 @@
 -- A number is taken off the stack and put into a component.
-use Rattle.std.proofs.Common.{◌≡◌, ℕ, ◌+◌, ◌<◌, ◌≤◌, ◌⊎◌, List, [], ◌∷◌, length, get_or, set, sym, refl, ap, ◌∙◌, subst, inl, inr, ⊎_elim, arith}
+use Rattle.std.proofs.Common.{◌≡◌, ℕ, ◌<◌, ◌≤◌, List, [], ◌∷◌, length, set, sym, refl, ap, ◌∙◌, subst, ⊎_elim, arith}
 use Rattle.std.proofs.lemmas.Bool.{cases_eq, cases_lt}
 use Rattle.std.proofs.lemmas.List.{get_or-set_same, get_or-set_other, get_or_past}
-use Rattle.components.specs.Walks.{Placed, At, Listed, Turned, spot}
+use Rattle.components.specs.Walks.{Placed, Listed, Turned, spot}
 use Rattle.components.specs.declared.marks.Place.{Place}
 use Rattle.components.specs.declared.marks.Place.TheVariants.{Unseen, Open, Done}
-use Rattle.components.proofs.Laws.{at-below, unseen_open, unseen_done, open_done, open_open}
+use Rattle.components.proofs.Laws.{at-below, unseen_open, open_done, open_open}
 
 -- what the loop that takes them off keeps
 pub record Taken (place₀ place : List Place) (nums : List ℕ) (c : ℕ) : Type 0 where

@@ -1,5 +1,7 @@
 //! The components of a model: largest sets of alike states that all reach one another inside the set.
 //! One depth-first walk finds them, with two stacks in lent memory.
+#![tactic(auto)]
+
 ghost use Rattle.std.specs.Prelude.{◌≡◌, ◌≤◌, [], length};
 ghost use Rattle.components.specs.Found.{Answers};
 ghost use Rattle.components.specs.Inner.{inner};

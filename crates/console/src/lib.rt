@@ -1,4 +1,6 @@
 //! What the programs share: a file on standard input, tables for any model file, and the fault line.
+#![tactic(auto)]
+
 use crate::advice::advice;
 use anyhow::anyhow;
 use modelfile::LONGEST;

@@ -1,5 +1,5 @@
 -- The two words of a dome's label.
-use Rattle.std.specs.Prelude.{Bool, false, List, [], ◌∷◌, slice_index_or}
+use Rattle.std.specs.Prelude.{false, [], ◌∷◌, slice_index_or}
 use Rattle.std.proofs.Common.{arith}
 use Rattle.std.proofs.lemmas.List.{get_or_past}
 use Rattle.kripke.specs.Words.{Words, Lawful}

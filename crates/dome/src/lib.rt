@@ -1,4 +1,6 @@
 //! A label kind for a dome that reports its slit and its motor: the example of docs/KINDS.md.
+#![tactic(auto)]
+
 ghost use Rattle.dome.specs.Dome.{dome_words, dome_lawful};
 
 use models::Label;

@@ -1,12 +1,11 @@
 -- The lines of a listing, put together from what the calls of an analysis answer.
-use Rattle.std.proofs.Common.{◌≡◌, ℕ, zero, suc, ◌+◌, ◌<◌, ◌≤◌, Bool, true, false, not, List, [], ◌∷◌, ◌++◌, length, take, None, Ok, Err, sym, refl, ap, ◌∙◌, subst, ⊎_elim, add-one, arith}
+use Rattle.std.proofs.Common.{◌≡◌, ℕ, zero, suc, ◌+◌, ◌<◌, ◌≤◌, true, false, not, List, [], ◌∷◌, ◌++◌, length, take, Ok, Err, sym, refl, ap, ◌∙◌, subst, ⊎_elim, add-one, arith}
 use Rattle.std.proofs.lemmas.List.{length-append}
 use Rattle.std.proofs.lemmas.Bool.{both_ways, not-true, not-false, cases_Bool}
 use Rattle.kripke.specs.Models.{Kripke}
-use Rattle.kripke.specs.Relation.{Settles}
 use Rattle.codec.specs.Pieces.{placed}
-use Rattle.codec.proofs.Places.{placed_then, take-placed, length-placed}
-use Rattle.merger.specs.Calls.{Analysed, SummaryAnswer, ClassAnswer}
+use Rattle.codec.proofs.Places.{placed_then, take-placed}
+use Rattle.merger.specs.Calls.{Analysed, SummaryAnswer}
 use Rattle.merger.specs.Promise.{Classes}
 use Rattle.merger.specs.declared.analysis.Analysis.{Analysis}
 use Rattle.merger.specs.declared.answers.Refusal.{Refusal}

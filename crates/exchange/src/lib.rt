@@ -1,4 +1,6 @@
 //! Model files brought to the merger, and what it found told as text: `take` and `listing`.
+#![tactic(auto)]
+
 mod lines;
 pub mod listing;
 pub mod taking;

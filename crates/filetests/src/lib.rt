@@ -1,4 +1,6 @@
 //! Examples of model files: read, refused and written. All of it is tests.
+#![tactic(auto)]
+
 #[cfg(test)]
 mod calls;
 #[cfg(test)]

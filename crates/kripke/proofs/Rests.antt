@@ -1,5 +1,5 @@
 -- A well-formed model stays so where its states with no move rest.
-use Rattle.std.proofs.Common.{◌≡◌, ℕ, ◌<◌, ◌≤◌, Bool, true, false, cond, ◌&&◌, eqb, ltb, ◌⊎◌, List, [], ◌∷◌, length, refl, ap, inl, inr, arith}
+use Rattle.std.proofs.Common.{◌≤◌, ltb, [], ◌∷◌, length, inl, arith}
 use Rattle.std.specs.List.{AllByRecursion as All}
 use Rattle.std.proofs.lemmas.Bool.{cond_both, ltb-true, and_parts, and_left, le-ltb, cond-false}
 use Rattle.kripke.specs.Models.{Frame, Kripke, SoundFrame, WellFormed, Lands}

@@ -6,7 +6,7 @@ use Rattle.kripke.specs.Models.{Frame, Kripke, WellFormed, Alike}
 use Rattle.kripke.specs.Equivalence.{Equivalence}
 use Rattle.kripke.specs.Paths.{Move}
 use Rattle.kripke.specs.Formulas.{Formula, top, word, neg, or, until, globally, depth, Holds}
-use Rattle.kripke.specs.Relation.{ST, NEXT, LOOP, Matched, Refined, Related}
+use Rattle.kripke.specs.Relation.{ST, LOOP, Matched, Refined, Related}
 use Rattle.kripke.proofs.Paths.{trail_map, stays_map, until_behind, until_split}
 use Rattle.kripke.proofs.Rounds.{st_related, st_more, related_equivalence}
 use Rattle.kripke.proofs.Stability.{loop_stays}

@@ -1,5 +1,5 @@
 -- What each kind of model means, from what it holds.
-use Rattle.std.specs.Prelude.{ℕ, ◌+◌, ◌-◌, max, Bool, true, false, cond, ◌&&◌, List, [], ◌∷◌, map, length, ◌==◌, nat_le, nat_lt, slice_index, slice_index_or, slice_range}
+use Rattle.std.specs.Prelude.{ℕ, ◌+◌, ◌-◌, max, Bool, false, cond, ◌&&◌, List, [], ◌∷◌, map, length, ◌==◌, nat_le, nat_lt, slice_index, slice_index_or, slice_range}
 use Rattle.kripke.specs.Words.{Words}
 use Rattle.kripke.specs.Models.{Frame, Labelling, Kripke, nowhere}
 

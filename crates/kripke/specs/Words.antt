@@ -1,5 +1,5 @@
 -- A set of words, by the test whether a word is in it, and when two such sets are the same.
-use Rattle.std.specs.Prelude.{◌≡◌, ℕ, ◌/◌, ◌%◌, ◌^◌, ◌≤◌, Bool, true, false, Decides, ◌==◌}
+use Rattle.std.specs.Prelude.{◌≡◌, ℕ, ◌/◌, ◌%◌, ◌^◌, ◌≤◌, Bool, false, Decides, ◌==◌}
 
 -- whether word a holds, for each a
 abbrev pub Words : Type 0

@@ -1,5 +1,6 @@
 //! What a model, a formula, a component, a class and a reduced model are.
 //! The definitions stand in specs/, what follows from them in proofs/; nothing of the program is in either.
+#![tactic(auto)]
 
 /// A move that goes to no state goes here.
 pub const NOWHERE: u16 = 4096;

@@ -1,10 +1,10 @@
 -- What the calls do to an analysis.
-use Rattle.std.proofs.Common.{◌≡◌, ℕ, suc, ◌+◌, ◌-◌, ◌<◌, ◌≤◌, min, Bool, true, false, eqb, Ok, Err, Decides, sym, refl, ap, ◌∙◌, subst, arith}
+use Rattle.std.proofs.Common.{◌≡◌, ℕ, suc, ◌+◌, ◌<◌, ◌≤◌, Bool, true, false, eqb, Ok, Err, Decides, sym, subst}
 use Rattle.kripke.specs.Models.{Kripke}
 use Rattle.kripke.specs.Formulas.{Agree}
 use Rattle.kripke.specs.Relation.{Related, Settles}
 use Rattle.merger.specs.declared.analysis.Analysis.{Analysis}
-use Rattle.merger.specs.Promise.{Reaches, Told}
+use Rattle.merger.specs.Promise.{Told}
 use Rattle.merger.specs.declared.answers.Refusal.{Refusal}
 use Rattle.merger.specs.Tables.{class_of}
 use Rattle.merger.specs.Calls.{Analysed, Promises, Continues, ClassAnswer, TogetherAnswer}

@@ -1,10 +1,10 @@
 -- What components reach inside their class, one inner component after the other.
-use Rattle.std.proofs.Common.{◌≡◌, ℕ, zero, suc, ◌+◌, ◌<◌, ◌≤◌, ◌⊎◌, ◌↔◌, List, [], length, get_or, set, sym, refl, ap, ◌∙◌, subst, inl, inr, ⊎_elim, arith}
+use Rattle.std.proofs.Common.{◌≡◌, ℕ, zero, suc, ◌<◌, ◌≤◌, ◌⊎◌, ◌↔◌, List, length, set, sym, refl, ap, ◌∙◌, subst, inl, inr, ⊎_elim, arith}
 use Rattle.std.proofs.lemmas.Bool.{cases_eq}
 use Rattle.sets.specs.declared.Set.{Set}
 use Rattle.sets.specs.Sets.{In, none, Splits}
 use Rattle.kripke.specs.Paths.{Trail}
-use Rattle.kripke.proofs.Roads.{Steps, Road, Via, via_road, road_via}
+use Rattle.kripke.proofs.Roads.{Steps, Via, via_road, road_via}
 use Rattle.merger.specs.Grids.{at, set_at, Groups, Several}
 use Rattle.merger.specs.Starts.{Inner}
 use Rattle.merger.proofs.Blank.{after_set}

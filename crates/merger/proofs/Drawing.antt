@@ -1,11 +1,11 @@
 -- A reduced model that is filled after the settling round.
-use Rattle.std.proofs.Common.{◌≡◌, ℕ, suc, ◌+◌, ◌<◌, ◌≤◌, Bool, true, false, cond, ltb, ◌⊎◌, ◌↔◌, List, [], length, get_or, set, Some, None, sym, refl, ap, ◌∙◌, subst, inl, inr, ⊎_elim, arith}
-use Rattle.std.proofs.lemmas.Bool.{cases_eq, cases_lt, cases_Bool, lt-ltb, ltb-true, le-ltb, cond-true, cond-false}
+use Rattle.std.proofs.Common.{◌≡◌, ℕ, ◌+◌, ◌<◌, ◌≤◌, true, false, cond, ltb, ◌↔◌, List, [], length, get_or, set, Some, None, sym, ap, ◌∙◌, subst, ⊎_elim, arith}
+use Rattle.std.proofs.lemmas.Bool.{cases_eq, cases_lt, cases_Bool, lt-ltb, ltb-true, cond-true, cond-false}
 use Rattle.std.proofs.lemmas.List.{get_or_default, get_or-set_same, get_or-set_other, length-set}
 use Rattle.sets.specs.declared.Set.{Set}
 use Rattle.sets.specs.Sets.{In, none, members, nth_of}
-use Rattle.sets.proofs.Members.{members_has, members_in, members_small, members_rise}
-use Rattle.kripke.specs.Models.{Frame, Kripke, nowhere, move}
+use Rattle.sets.proofs.Members.{members_has, members_in, members_rise}
+use Rattle.kripke.specs.Models.{Kripke, nowhere, move}
 use Rattle.kripke.specs.Paths.{Move}
 use Rattle.kripke.specs.Relation.{Related}
 use Rattle.kripke.specs.Reduced.{Rising}

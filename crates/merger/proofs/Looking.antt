@@ -1,11 +1,11 @@
 -- The classes one move ahead of a component.
-use Rattle.std.proofs.Common.{◌≡◌, ℕ, suc, ◌+◌, ◌<◌, ◌≤◌, Bool, true, ◌⊎◌, ◌↔◌, List, [], length, get_or, set, Decides, sym, refl, ap, ◌∙◌, subst, inl, inr, ⊎_elim, arith}
-use Rattle.std.proofs.lemmas.Bool.{cases_eq, cases_lt}
+use Rattle.std.proofs.Common.{◌≡◌, ℕ, ◌+◌, ◌<◌, Bool, true, ◌⊎◌, ◌↔◌, List, length, set, Decides, sym, refl, ap, ◌∙◌, subst, inl, inr, ⊎_elim, arith}
+use Rattle.std.proofs.lemmas.Bool.{cases_eq}
 use Rattle.std.proofs.lemmas.List.{get_or-set_same, get_or-set_other}
 use Rattle.sets.specs.declared.Set.{Set}
 use Rattle.sets.specs.Sets.{In, none, Splits}
 use Rattle.sets.proofs.Bits.{in_dec, none_in}
-use Rattle.merger.specs.Grids.{at, set_at, On, Groups, Counts, Ahead, Several, Outlook, Outlooks}
+use Rattle.merger.specs.Grids.{at, set_at, On, Groups, Ahead, Several, Outlook}
 
 -- all has the classes of what is in leaving and not in left, and of nothing else
 pub record Looked (class : List ℕ) (leaving all left : Set) : Type 0 where

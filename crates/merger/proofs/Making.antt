@@ -1,9 +1,8 @@
 -- Calls made one after the other.
-use Rattle.std.proofs.Common.{◌≡◌, ℕ, zero, suc, ◌+◌, ◌-◌, ◌<◌, ◌≤◌, min, Bool, true, false, ◌⊎◌, ◌↔◌, List, [], ◌∷◌, ◌++◌, length, get_or, take, set, None, Ok, Err, Result, sym, refl, ap, ◌∙◌, subst, inl, inr, ⊎_elim, arith, MatchResult}
+use Rattle.std.proofs.Common.{◌≡◌, ℕ, zero, suc, ◌+◌, ◌-◌, ◌<◌, ◌≤◌, Bool, ◌⊎◌, List, [], ◌∷◌, ◌++◌, length, get_or, take, set, Ok, Err, Result, sym, refl, ap, ◌∙◌, subst, inl, inr, ⊎_elim, arith}
 use Rattle.std.proofs.lemmas.Bool.{cases_eq}
 use Rattle.std.proofs.lemmas.List.{take_more, get_or-set_same, get_or-set_other, length-set}
 use Rattle.kripke.specs.Models.{Kripke, WellFormed}
-use Rattle.kripke.specs.Formulas.{Agree}
 use Rattle.kripke.specs.Relation.{Settles}
 use Rattle.kripke.proofs.Settling.{classes}
 use Rattle.merger.specs.declared.analysis.Analysis.{Analysis}
@@ -16,13 +15,12 @@ use Rattle.merger.specs.declared.lists.Answer.{Answer}
 use Rattle.merger.specs.declared.lists.Answer.TheVariants.{Class as InClass, Filled}
 use Rattle.merger.specs.declared.reduced.Reduced.{Reduced as ReducedModel}
 use Rattle.merger.specs.Lists.{made_answer, ran_answer, class_answer, together_answer, reduced_answer}
-use Rattle.merger.specs.Promise.{Classes, Told, Promise}
+use Rattle.merger.specs.Promise.{Classes, Promise}
 use Rattle.merger.specs.Reducing.{meaning, Fills}
-use Rattle.merger.specs.Refusals.{Refused}
 use Rattle.merger.specs.Tells.{ClassTells, ReducedTells}
-use Rattle.merger.specs.Calls.{Analysed, Promises, Continues, RoundAnswer, RunAnswer, ClassAnswer, TogetherAnswer, ReducedAnswer}
+use Rattle.merger.specs.Calls.{Analysed, RoundAnswer, RunAnswer, ClassAnswer, TogetherAnswer, ReducedAnswer}
 use Rattle.merger.specs.Runs.{asks, asked, CallTells, CallAnswer, call_at, rounds_before, SettledBefore, Due, Classed, Performed}
-use Rattle.merger.proofs.Rounding.{settles_once, settling}
+use Rattle.merger.proofs.Rounding.{settles_once}
 use Rattle.merger.proofs.Promising.{promise}
 use Rattle.merger.proofs.Calling.{promises, continues_none}
 

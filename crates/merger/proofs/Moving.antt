@@ -1,8 +1,8 @@
 -- A round, told by components: NEXT and LOOP of a state are the classes ahead of what its component reaches.
-use Rattle.std.proofs.Common.{◌≡◌, ℕ, zero, suc, ◌<◌, ◌⊎◌, ◌↔◌, sym, refl, ap, ◌∙◌, subst, inl, inr, arith}
+use Rattle.std.proofs.Common.{◌≡◌, ℕ, suc, ◌<◌, ◌↔◌, sym, refl, ap, ◌∙◌, subst, inl, inr, arith}
 use native.Mathlib.Decide.{ℕ_discrete}
-use Rattle.kripke.specs.Models.{Frame, Kripke, WellFormed, Alike}
-use Rattle.kripke.specs.Paths.{Move, Trail}
+use Rattle.kripke.specs.Models.{Kripke, WellFormed, Alike}
+use Rattle.kripke.specs.Paths.{Move}
 use Rattle.kripke.specs.Relation.{ST, NEXT, LOOP, Matched, Related}
 use Rattle.kripke.specs.Numbering.{Numbering}
 use Rattle.kripke.specs.Components.{Components}

@@ -1,17 +1,16 @@
 -- The tables of an analysis keep the promise.
-use Rattle.std.proofs.Common.{◌≡◌, ℕ, suc, ◌+◌, ◌-◌, ◌<◌, ◌≤◌, min, Bool, true, false, eqb, ◌⊎◌, ◌↔◌, Decides, sym, refl, ap, ◌∙◌, subst, inl, inr, ⊎_elim, arith}
+use Rattle.std.proofs.Common.{◌≡◌, ℕ, suc, ◌+◌, ◌-◌, ◌<◌, ◌≤◌, min, Bool, true, false, eqb, Decides, inl, ⊎_elim, arith}
 use Rattle.std.proofs.lemmas.Bool.{cases_Bool, both_ways, eqb-true, eqb-false, eq-eqb}
 use Rattle.kripke.specs.Models.{Kripke, WellFormed, Total}
 use Rattle.kripke.specs.Formulas.{Agree}
 use Rattle.kripke.specs.Relation.{Related, Stable, Settles}
-use Rattle.kripke.specs.Numbering.{Numbering}
-use Rattle.kripke.proofs.Numbering.{numbering_same, numbering_count}
+use Rattle.kripke.proofs.Numbering.{numbering_same}
 use Rattle.kripke.proofs.Settling.{stable_later}
 use Rattle.kripke.proofs.Quotient.{reduced_agrees, reduced_smallest}
 use Rattle.kripke.proofs.Claims.{stable_exact, parted_by_formula_lem, rounds_counted}
 use Rattle.merger.specs.declared.tables.Found.{Found}
 use Rattle.merger.specs.declared.tables.Rounds.{Rounds}
-use Rattle.merger.specs.Tables.{part, class_of}
+use Rattle.merger.specs.Tables.{class_of}
 use Rattle.merger.specs.Analysed.{Surveyed, Tabled}
 use Rattle.merger.specs.Promise.{Classes, Told, Promise, Reaches}
 use Rattle.merger.proofs.Rounding.{settles_after, settles_once, stands_at, settling}

@@ -1,13 +1,13 @@
 -- One more round, on the tables and in the model.
-use Rattle.std.proofs.Common.{◌≡◌, ℕ, suc, ◌+◌, ◌<◌, ◌≤◌, Bool, true, false, ◌⊎◌, ◌↔◌, sym, refl, ap, ◌∙◌, subst, inl, inr, ⊎_elim, arith}
+use Rattle.std.proofs.Common.{◌≡◌, ℕ, suc, ◌+◌, ◌<◌, ◌≤◌, true, false, ◌⊎◌, ◌↔◌, sym, refl, ap, ◌∙◌, subst, inl, inr, ⊎_elim, arith}
 use mathlib.Core.Logic.{∥∥₁_elim, ∥∥₁_map}
 use mathlib.Core.HLevel.{⊥_prop}
 use Rattle.std.proofs.lemmas.Bool.{cases_Bool, cases_eq, both_ways}
 use Rattle.sets.specs.Sets.{bit, In}
 use Rattle.sets.proofs.Bits.{none_in, On as On-bit}
 use Rattle.kripke.specs.Models.{Kripke}
-use Rattle.kripke.specs.Relation.{ST, Related, Stable, Settles}
-use Rattle.kripke.specs.Numbering.{Numbering, Ranked}
+use Rattle.kripke.specs.Relation.{Related, Settles}
+use Rattle.kripke.specs.Numbering.{Numbering}
 use Rattle.kripke.proofs.Ranking.{ranked_two, ranked_few}
 use Rattle.kripke.proofs.Rounds.{related_equivalence, st_related, st_narrows}
 use Rattle.kripke.proofs.Settling.{same_stable, unsettled_next}

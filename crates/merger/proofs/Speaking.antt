@@ -1,13 +1,13 @@
 -- The words of components: gathered from the first state of each, and compared as sets.
-use Rattle.std.proofs.Common.{◌≡◌, ℕ, suc, ◌+◌, ◌/◌, ◌%◌, ◌^◌, ◌<◌, ◌≤◌, Bool, true, false, ◌&&◌, eqb, ltb, ◌⊎◌, ◌↔◌, List, [], length, get_or, set, sym, refl, ap, ◌∙◌, subst, inl, inr, ⊎_elim, arith}
+use Rattle.std.proofs.Common.{◌≡◌, ℕ, ◌+◌, ◌/◌, ◌%◌, ◌^◌, ◌<◌, ◌≤◌, Bool, true, eqb, ltb, ◌↔◌, List, length, set, sym, ap, ◌∙◌, subst, ⊎_elim, arith}
 use Rattle.std.proofs.lemmas.Bool.{cases_eq, cases_lt, cases_Bool, both_ways, and_parts, and_from, ltb-true, lt-ltb, eqb-true, eq-eqb}
 use Rattle.std.proofs.lemmas.List.{get_or-set_same, get_or-set_other, length-set}
-use Rattle.kripke.specs.Words.{Words, SameWords}
+use Rattle.kripke.specs.Words.{SameWords}
 use Rattle.kripke.specs.Models.{Kripke, words_at}
 use Rattle.sets.specs.declared.Set.{Set}
-use Rattle.sets.specs.Sets.{In, none}
+use Rattle.sets.specs.Sets.{In}
 use Rattle.sets.specs.Sets.{bit as digit}
-use Rattle.merger.specs.Grids.{at, set_at, Same, Like}
+use Rattle.merger.specs.Grids.{at, Same}
 use Rattle.merger.specs.Tables.{words_of}
 use Rattle.merger.specs.Starts.{Spoken}
 

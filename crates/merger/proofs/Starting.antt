@@ -1,8 +1,8 @@
 -- The tables as an open leaves them hold C_0, and ST of the first round.
-use Rattle.std.proofs.Common.{◌≡◌, ℕ, zero, suc, ◌+◌, ◌<◌, ◌≤◌, false, ltb, ◌⊎◌, ◌↔◌, List, sym, refl, ap, ◌∙◌, subst, inl, inr, arith}
+use Rattle.std.proofs.Common.{◌≡◌, ℕ, zero, suc, ◌<◌, false, ltb, ◌↔◌, List, sym, refl, ap, ◌∙◌, subst, inl, inr, arith}
 use Rattle.std.proofs.lemmas.Bool.{both_ways, cond-true, lt-ltb}
 use Rattle.kripke.specs.Words.{SameWords}
-use Rattle.kripke.specs.Models.{Frame, Kripke, WellFormed, Alike, words_at}
+use Rattle.kripke.specs.Models.{Frame, Kripke, WellFormed, Alike}
 use Rattle.kripke.specs.Components.{Components}
 use Rattle.survey.specs.Gaps.{Gaps, Sized, Linked}
 use Rattle.survey.specs.declared.gaps.Gap.{Gap}
@@ -18,7 +18,7 @@ use Rattle.kripke.proofs.Rounds.{st_own, st_related, st_more, st_join, alike_equ
 use Rattle.sets.specs.Sets.{In}
 use Rattle.merger.specs.declared.tables.Found.{Found}
 use Rattle.merger.specs.declared.tables.Rounds.{Rounds}
-use Rattle.merger.specs.Grids.{at, set_at, On}
+use Rattle.merger.specs.Grids.{at, set_at}
 use Rattle.merger.specs.Tables.{part, class_of, words_of, Passes}
 use Rattle.merger.specs.Starts.{Inner, Spoken, Started}
 use Rattle.merger.specs.Analysed.{Surveyed, Tabled}

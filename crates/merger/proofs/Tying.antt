@@ -1,11 +1,10 @@
 -- States tied to their components, and sets marked in rows.
-use Rattle.std.proofs.Common.{◌≡◌, ℕ, suc, ◌+◌, ◌<◌, ◌≤◌, ◌⊎◌, ◌↔◌, List, [], length, get_or, set, sym, refl, ap, ◌∙◌, subst, inl, inr, ⊎_elim, arith}
+use Rattle.std.proofs.Common.{◌≡◌, ℕ, ◌+◌, ◌<◌, ◌⊎◌, ◌↔◌, List, length, get_or, set, sym, refl, ap, ◌∙◌, subst, inl, inr, ⊎_elim, arith}
 use Rattle.std.proofs.lemmas.Bool.{cases_eq}
-use Rattle.std.proofs.lemmas.List.{get_or-set_same, get_or-set_other}
 use Rattle.sets.specs.declared.Set.{Set}
 use Rattle.sets.specs.Sets.{In, none, Splits}
 use Rattle.sets.proofs.Bits.{none_in}
-use Rattle.merger.specs.Grids.{at, set_at, On}
+use Rattle.merger.specs.Grids.{at, set_at}
 use Rattle.merger.specs.Starts.{Tied}
 use Rattle.merger.proofs.Blank.{after_set}
 

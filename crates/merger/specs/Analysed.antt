@@ -1,5 +1,5 @@
 -- What the tables of an analysis say of the model that was opened.
-use Rattle.std.specs.Prelude.{◌≡◌, ℕ, ◌<◌, ◌≤◌, Bool, true, false, ◌↔◌}
+use Rattle.std.specs.Prelude.{◌≡◌, ℕ, ◌<◌, Bool, true, false, ◌↔◌}
 use Rattle.kripke.specs.Words.{SameWords}
 use Rattle.kripke.specs.Models.{Kripke, WellFormed, Alike}
 use Rattle.kripke.specs.Relation.{ST, Related, Stable, Settles}

@@ -1,11 +1,11 @@
 -- What a reduced model means, from its tables: the words of each state as bits, and the states that it moves to as a set.
-use Rattle.std.specs.Prelude.{◌≡◌, ℕ, ◌<◌, ◌≤◌, Bool, true, false, cond, ◌⊎◌, List, [], length, nat_lt, slice_index, refl}
-use Rattle.std.proofs.Common.{sym, ◌∙◌, ap, subst, inl, inr, ⊎_elim, arith}
+use Rattle.std.specs.Prelude.{ℕ, ◌<◌, ◌≤◌, cond, List, [], length, nat_lt, slice_index}
+use Rattle.std.proofs.Common.{inl, arith}
 use Rattle.std.specs.List.{AllByRecursion as All}
 use Rattle.std.proofs.lemmas.Bool.{cond_both, cond-false, le-ltb}
 use Rattle.std.proofs.ByRecursion.{All-from_get_or}
 use Rattle.kripke.specs.Words.{Within}
-use Rattle.kripke.specs.Models.{Frame, Labelling, Kripke, Lands, SoundFrame, WellFormed}
+use Rattle.kripke.specs.Models.{Frame, Labelling, Kripke, Lands, WellFormed}
 use Rattle.sets.specs.declared.Set.{Set}
 use Rattle.sets.specs.Sets.{In, members}
 use Rattle.sets.proofs.Members.{members_few, members_in}

@@ -1,5 +1,5 @@
 -- What is promised of the classes of a model after r rounds.
-use Rattle.std.specs.Prelude.{◌≡◌, ℕ, suc, ◌+◌, ◌<◌, ◌≤◌, min, ◌↔◌, ◌≢◌}
+use Rattle.std.specs.Prelude.{◌≡◌, ℕ, ◌+◌, ◌<◌, ◌≤◌, min, ◌↔◌, ◌≢◌}
 use Rattle.kripke.specs.Models.{Kripke}
 use Rattle.kripke.specs.Formulas.{Formula, depth, Agree, Parts}
 use Rattle.kripke.specs.Relation.{Related, Settles}

@@ -1,4 +1,6 @@
 //! The analysis of a model: which states no formula tells apart.
+#![tactic(auto)]
+
 mod advance;
 mod ahead;
 pub mod analysis;

@@ -1,12 +1,12 @@
 -- What follows from what a file denotes: where its numbers stand, and how many there are.
-use Rattle.std.proofs.Common.{◌≡◌, ℕ, ◌+◌, ◌^◌, ◌<◌, ◌≤◌, List, [], ◌∷◌, ◌++◌, map, length, take, sym, refl, ap, ◌∙◌, subst, zero-add, arith}
+use Rattle.std.proofs.Common.{◌≡◌, ℕ, ◌^◌, ◌<◌, ◌≤◌, List, [], ◌∷◌, length, sym, ap, ◌∙◌, subst, zero-add, arith}
 use Rattle.std.specs.List.{flat_map, AllByRecursion as All}
 use Rattle.std.proofs.ByRecursion.{All-append, All-map, All-weaker}
 use Rattle.std.proofs.lemmas.List.{length-append, take_all}
 use Rattle.models.specs.declared.facts.Facts.{Facts}
 use Rattle.codec.specs.Numbers.{codes, counted}
 use Rattle.codec.proofs.Coding.{length-codes}
-use Rattle.modelfile.specs.Files.{bits_of, numbers, file_of, longest, RisingRow, Wide, Valid, targets_of}
+use Rattle.modelfile.specs.Files.{bits_of, numbers, longest, RisingRow, Valid, targets_of}
 use Rattle.modelfile.specs.FirstFault.{Denotes}
 use Rattle.modelfile.specs.Fills.{Sequence, RowsFit}
 use Rattle.modelfile.specs.declared.scan.Room.{Room}

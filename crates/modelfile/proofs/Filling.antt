@@ -1,7 +1,6 @@
 -- Numbers that stand one after another are read again, and written into a table.
 use Rattle.std.proofs.Common.{◌≡◌, ℕ, ◌+◌, ◌^◌, ◌<◌, ◌≤◌, List, [], ◌∷◌, ◌++◌, map, length, get_or, take, drop, set, sym, refl, ap, ◌∙◌, subst, zero-add, arith}
 use Rattle.std.specs.List.{flat_map, AllByRecursion as All}
-use Rattle.std.proofs.ByRecursion.{All-append, All-get_or}
 use Rattle.std.proofs.lemmas.List.{append_assoc, append-nil, drop_all, drop_more, drop-set-lt, length-append, length-set, length-take-le, set-set, take_all, take_at, take_more, take-take}
 use Rattle.codec.specs.Numbers.{code, codes, counted}
 use Rattle.codec.specs.Pieces.{placed}
@@ -10,7 +9,7 @@ use Rattle.codec.proofs.Coding.{code_some}
 use Rattle.codec.proofs.Joins.{joined-append, joined_within}
 use Rattle.codec.proofs.Places.{placed-none, placed_one, placed-set, placed_then}
 use Rattle.modelfile.specs.Files.{targets_of, offsets_from, offsets_of}
-use Rattle.modelfile.specs.Fills.{Sequence, RowFits, RowsFit}
+use Rattle.modelfile.specs.Fills.{Sequence}
 use Rattle.modelfile.proofs.Walking.{targets_push}
 
 all_left : (P : ℕ → Type 0) (xs ys : List ℕ) → All P (xs ++ ys) → All P xs

@@ -1,13 +1,13 @@
 -- The tables that load fills mean the model that the file denotes.
-use Rattle.std.proofs.Common.{◌≡◌, ℕ, zero, suc, ◌+◌, ◌-◌, ◌<◌, ◌≤◌, Bool, true, false, cond, ◌&&◌, eqb, ltb, leb, List, [], ◌∷◌, ◌++◌, map, length, get_or, take, drop, sym, refl, ap, ◌∙◌, inl, inr, arith}
+use Rattle.std.proofs.Common.{◌≡◌, ℕ, zero, suc, ◌+◌, ◌-◌, ◌<◌, ◌≤◌, ltb, List, [], ◌∷◌, ◌++◌, map, length, get_or, take, drop, sym, refl, ap, ◌∙◌, inl, inr, arith}
 use mathlib.Core.Path.{fun_ext}
 use Rattle.std.specs.List.{AllByRecursion as All}
 use Rattle.std.proofs.ByRecursion.{All-get_or}
-use Rattle.std.proofs.lemmas.List.{append_assoc, drop_at, drop_more, get_or_past, length-append, length-take-le, take-append-drop, take_at}
+use Rattle.std.proofs.lemmas.List.{drop_at, drop_more, get_or_past, length-append, take-append-drop, take_at}
 use Rattle.std.proofs.lemmas.Bool.{cases_lt, cond-true, cond-false, lt-ltb, le-ltb}
 use Rattle.std.proofs.lemmas.Bool.Decides.{nat_tests}
-use Rattle.kripke.specs.Kinds.{listed, listed_frame, listed_labels, listed_size, span, table_row, told}
-use Rattle.kripke.specs.Models.{Frame, Kripke}
+use Rattle.kripke.specs.Kinds.{listed, listed_labels, listed_size, span, table_row, told}
+use Rattle.kripke.specs.Models.{Kripke}
 use Rattle.models.specs.Facts.{fact_words}
 use Rattle.models.specs.declared.facts.Facts.{Facts}
 use Rattle.codec.proofs.Joins.{joined-append, length_step}

@@ -1,17 +1,15 @@
 -- A file has one outcome: the numbers before a spot determine it, and a spot where reading halts is the only one.
-use Rattle.std.proofs.Common.{◌≡◌, ℕ, ◌+◌, ◌-◌, ◌^◌, ◌<◌, ◌≤◌, true, false, cond, ltb, ◌⊎◌, List, [], ◌∷◌, ◌++◌, map, length, take, drop, sym, refl, ap, ◌∙◌, subst, inl, inr, ⊎_elim, arith, le-ltb, lt-ltb}
+use Rattle.std.proofs.Common.{◌≡◌, ℕ, ◌+◌, ◌-◌, ◌^◌, ◌<◌, ◌≤◌, cond, ltb, ◌⊎◌, List, [], ◌∷◌, ◌++◌, length, drop, sym, refl, ap, ◌∙◌, subst, inl, inr, ⊎_elim, arith, le-ltb, lt-ltb}
 use Rattle.std.specs.List.{flat_map, AllByRecursion as All}
-use Rattle.std.proofs.ByRecursion.{All-append}
-use Rattle.std.proofs.lemmas.List.{append_assoc, append-nil, drop_at, length-append, length_push, length-take-le, take-append-drop, take_all}
-use Rattle.std.proofs.lemmas.Bool.{cases_lt, cond-true, cond-false, cond_both}
-use Rattle.kripke.specs.Reduced.{Rising}
+use Rattle.std.proofs.lemmas.List.{append_assoc, append-nil, drop_at, length-append, length_push, take-append-drop, take_all}
+use Rattle.std.proofs.lemmas.Bool.{cases_lt, cond-true, cond-false}
 use Rattle.models.specs.declared.facts.Facts.{Facts}
 use Rattle.codec.specs.Numbers.{code, codes, counted}
-use Rattle.codec.specs.Reading.{Stands, Wrong}
+use Rattle.codec.specs.Reading.{Stands}
 use Rattle.codec.proofs.Joins.{joined-append}
 use Rattle.codec.proofs.Standing.{same_front, stands, one_stands, one_wrong, not_wrong}
-use Rattle.modelfile.specs.Files.{bits_of, numbers, longest, Sized, RisingRow, Wide, targets_of}
-use Rattle.modelfile.specs.FirstFault.{Spot, at_size, at_label, at-degree, at_target, before, Right, RightLabels, RightRows, RightTargets, HoldsStates, Comes, Over, InRange, Rises, HasRoom, Number, Fails, Reached, FaultAtSpot, FirstFault, Denotes, OneOutcome}
+use Rattle.modelfile.specs.Files.{bits_of, numbers, RisingRow, Wide, targets_of}
+use Rattle.modelfile.specs.FirstFault.{Spot, at_size, at_label, at-degree, at_target, before, Right, RightLabels, RightRows, RightTargets, Comes, Over, InRange, Rises, HasRoom, Number, Fails, Reached, FaultAtSpot, Denotes, OneOutcome}
 use Rattle.modelfile.specs.declared.faults.FileFault.{FileFault}
 use Rattle.modelfile.specs.declared.faults.FileFault.TheVariants.{InNumber, OutOfRange, NotRising, TableShort, LeftOver, TooLong}
 use Rattle.modelfile.specs.declared.scan.Room.{Room}

@@ -1,21 +1,19 @@
 -- One number more of a file is read, and is right.
-use Rattle.std.proofs.Common.{◌≡◌, ℕ, ◌+◌, ◌-◌, ◌^◌, ◌<◌, ◌≤◌, List, [], ◌∷◌, ◌++◌, map, length, take, sym, refl, ap, ◌∙◌, subst, inr, arith}
-use Rattle.std.specs.List.{flat_map, AllByRecursion as All}
+use Rattle.std.proofs.Common.{◌≡◌, ℕ, ◌+◌, ◌<◌, ◌≤◌, List, [], ◌∷◌, ◌++◌, length, take, sym, refl, ap, ◌∙◌, subst, inr, arith}
 use Rattle.std.proofs.ByRecursion.{All-push}
 use Rattle.std.proofs.lemmas.List.{append_assoc, append-nil, flat_map_more, length-append, length_push, length-take-le, map_push, nil_from_length, take_all}
 use Rattle.kripke.specs.Reduced.{Rising}
 use Rattle.models.specs.declared.facts.Facts.{Facts}
 use Rattle.codec.specs.Numbers.{code, codes, counted}
 use Rattle.codec.specs.Reading.{Stands}
-use Rattle.codec.proofs.Joins.{joined-append}
-use Rattle.modelfile.specs.Files.{bits_of, numbers, file_of, longest, Sized, RisingRow, Wide, targets_of}
-use Rattle.modelfile.specs.FirstFault.{Spot, at_size, at_label, at-degree, at_target, before, Right, RightLabels, RightRows, RightTargets, HoldsStates, Reached, Fails, FaultAtSpot, FirstFault, Denotes}
+use Rattle.modelfile.specs.Files.{bits_of, numbers, longest, Sized, RisingRow, Wide, targets_of}
+use Rattle.modelfile.specs.FirstFault.{Spot, at_size, at_label, at-degree, at_target, before, Right, RightLabels, HoldsStates, Reached, Fails, FirstFault, Denotes}
 use Rattle.modelfile.specs.Walks.{LabelsRead, RowsRead, TargetsRead, Lowest}
 use Rattle.modelfile.specs.declared.faults.FileFault.{FileFault}
 use Rattle.modelfile.specs.declared.scan.Room.{Room}
 use Rattle.modelfile.specs.declared.scan.Walk.{Walk}
 use Rattle.modelfile.specs.declared.scan.OpenRow.{OpenRow}
-use Rattle.modelfile.proofs.Rise.{lowest_more, lowest-none, rising_none, rising_front}
+use Rattle.modelfile.proofs.Rise.{lowest_more, lowest-none, rising_none}
 
 pub codes_push : (ns : List ℕ) (n : ℕ) → codes ns ++ code n ≡ codes (ns ++ (n ∷ []))
 codes_push ns n = flat_map_more code [] ns n

@@ -1,5 +1,5 @@
 -- Numbers that stand one after another in a file, for the second pass, which fills the tables.
-use Rattle.std.specs.Prelude.{◌≡◌, ℕ, ◌+◌, ◌^◌, ◌<◌, ◌≤◌, List, [], ◌∷◌, ◌++◌, length, take}
+use Rattle.std.specs.Prelude.{◌≡◌, ℕ, ◌+◌, ◌^◌, ◌<◌, ◌≤◌, List, ◌++◌, length, take}
 use Rattle.std.specs.List.{flat_map, AllByRecursion as All}
 use Rattle.codec.specs.Numbers.{codes, counted}
 use Rattle.modelfile.specs.Files.{targets_of}

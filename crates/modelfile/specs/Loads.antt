@@ -1,5 +1,5 @@
 -- What load answers and leaves.
-use Rattle.std.specs.Prelude.{◌≡◌, ℕ, ◌+◌, List, ◌∷◌, length, take, Result, MatchResult}
+use Rattle.std.specs.Prelude.{◌≡◌, ℕ, ◌+◌, List, length, take, Result, MatchResult}
 use Rattle.codec.specs.Pieces.{placed}
 use Rattle.kripke.specs.Kinds.{listed}
 use Rattle.kripke.specs.Models.{Kripke}

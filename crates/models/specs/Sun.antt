@@ -1,5 +1,5 @@
 -- The six words of a sun label.
-use Rattle.std.specs.Prelude.{ℕ, Bool, false, List, [], ◌∷◌, ℤ, negsuc, int_le, slice_index_or}
+use Rattle.std.specs.Prelude.{Bool, false, List, [], ◌∷◌, negsuc, int_le, slice_index_or}
 use Rattle.std.proofs.Common.{arith}
 use Rattle.std.proofs.lemmas.List.{get_or_past}
 use Rattle.kripke.specs.Words.{Words, Lawful}

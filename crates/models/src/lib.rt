@@ -1,4 +1,6 @@
 //! Labels and models, by the questions that can be asked of them: the merger's two interfaces, and the first kinds of each.
+#![tactic(auto)]
+
 ghost use Rattle.std.specs.Prelude.{◌≡◌, ℕ, length};
 ghost use Rattle.kripke.specs.Words.{Words, SameWords, Lawful, TellsSame};
 ghost use Rattle.kripke.specs.Models.{Kripke, WellFormed, TellsAlike, words_at, move};

@@ -1,5 +1,7 @@
 //! The second engine, which shares no code with the merger: plain models, the relation and truth straight from their
 //! definitions, and the tables that hold such a model.
+#![tactic(auto)]
+
 pub mod oracle;
 pub mod tables;
 pub mod truth;

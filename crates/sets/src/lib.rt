@@ -1,4 +1,6 @@
 //! Sets of numbers below 128, one bit of a 128-bit word for each.
+#![tactic(auto)]
+
 ghost use Rattle.std.specs.Prelude.{◌≡◌, ℕ, ◌<◌, ◌≤◌, ◌⊎◌, ◌↔◌, length, Decides, MatchOption, ◌≢◌};
 ghost use Rattle.sets.specs.Sets.{bit, In, Splits, members, nth_of};
 

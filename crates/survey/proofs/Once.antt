@@ -1,7 +1,7 @@
 -- A frame has one gap at most, and none if it is admitted.
-use Rattle.std.proofs.Common.{◌≡◌, ℕ, ◌<◌, ◌≤◌, ◌⊎◌, List, length, get_or, sym, refl, ap, ◌∙◌, subst, inl, inr, ⊎_elim, arith}
+use Rattle.std.proofs.Common.{◌≡◌, ℕ, ◌<◌, ◌⊎◌, List, length, sym, refl, ap, subst, inl, inr, ⊎_elim, arith}
 use Rattle.std.proofs.lemmas.Bool.{cases_order}
-use Rattle.kripke.specs.Models.{Frame, TotalRow, nowhere}
+use Rattle.kripke.specs.Models.{Frame, TotalRow}
 use Rattle.survey.specs.declared.gaps.Gap.{Gap}
 use Rattle.survey.specs.declared.gaps.Gap.TheVariants.{NoStates, TooMany, EmptyRow, Nowhere}
 use Rattle.survey.specs.Gaps.{Gaps, Admitted, Sized, TotalBelow, FirstNowhere, OneGap}

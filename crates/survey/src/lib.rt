@@ -1,4 +1,6 @@
 //! A model looked over before work: its states counted, each row seen to be total, and its moves taken into sets.
+#![tactic(auto)]
+
 ghost use Rattle.std.specs.Prelude.{◌≡◌, ℕ, ◌<◌, length, MatchResult};
 ghost use Rattle.kripke.specs.Models.{TotalRow};
 ghost use Rattle.survey.specs.Gaps.{Gaps, Sized, Admitted, TotalBelow, RowIs, Linked, OneGap};

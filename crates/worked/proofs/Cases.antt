@@ -1,5 +1,5 @@
 -- The worked cases, computed.
-use Rattle.std.proofs.Common.{◌≡◌, ℕ, ◌+◌, ◌<◌, Bool, true, false, not, ◌&&◌, ◌||◌, eqb, ◌↔◌, List, [], ◌∷◌, get_or, refl, ap, inr, arith, lit<}
+use Rattle.std.proofs.Common.{◌≡◌, ℕ, ◌+◌, ◌<◌, Bool, true, false, not, ◌||◌, eqb, ◌↔◌, List, [], ◌∷◌, get_or, refl, inr, arith, lit<}
 use mathlib.Core.Bool.{beq}
 use Rattle.kripke.specs.Models.{WellFormed, Alike}
 use Rattle.kripke.specs.Kinds.{beside, rested}
@@ -9,7 +9,6 @@ use Rattle.kripke.proofs.Tables.{listed_formed}
 use Rattle.kripke.proofs.Sides.{beside_formed}
 use Rattle.kripke.proofs.Rests.{rested_formed}
 use Rattle.models.specs.Facts.{fact_words, facts_lawful}
-use Rattle.codec.specs.Numbers.{code}
 use Rattle.modelfile.specs.Files.{offsets_of, targets_of}
 use Rattle.worked.specs.Tables.{any, every, seek, row, lines}
 use Rattle.worked.specs.Decisions.{among, moves, widen, close, roads, reached, looped, nexts, near, matches, finer, round, spoken, alike, relation, inside, outside, loops, mutual?, ranks, steady, settling?, ways, ends, keeps, truth, below, total?, rising?, move?, reduces?, related?, holds?}

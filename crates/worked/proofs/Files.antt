@@ -1,11 +1,11 @@
 -- The worked cases of files, numbers and refusals.
-use Rattle.std.proofs.Common.{◌≡◌, ℕ, zero, suc, ◌+◌, ◌*◌, ◌%◌, ◌^◌, ◌<◌, ◌≤◌, List, [], ◌∷◌, ◌++◌, length, sym, refl, ap, subst, arith, lit<, lit≤}
-use Rattle.codec.specs.Numbers.{code, Coded, meant, Shortest}
+use Rattle.std.proofs.Common.{◌≡◌, ℕ, zero, suc, ◌<◌, ◌≤◌, List, [], ◌∷◌, ◌++◌, length, refl, arith, lit<, lit≤}
+use Rattle.codec.specs.Numbers.{code, Coded, meant}
 use Rattle.codec.specs.declared.numbers.NumberFault.TheVariants.{NotFewestAt}
 use Rattle.codec.proofs.Coding.{each_code_is_shortest}
 use Rattle.kripke.specs.Reduced.{Rising}
-use Rattle.modelfile.specs.Files.{RisingRow, Valid}
-use Rattle.modelfile.specs.FirstFault.{Denotes, FaultAtSpot, at_size}
+use Rattle.modelfile.specs.Files.{RisingRow}
+use Rattle.modelfile.specs.FirstFault.{FaultAtSpot, at_size}
 use Rattle.modelfile.specs.declared.faults.FileFault.TheVariants.{InNumber}
 use Rattle.survey.specs.Gaps.{Gaps, gap_cause}
 use Rattle.survey.specs.declared.gaps.Gap.TheVariants.{EmptyRow}

@@ -11,7 +11,7 @@ use Rattle.kripke.proofs.Rounds.{related_equivalence, st_related, st_more}
 use Rattle.kripke.proofs.Roads.{Steps, Road}
 use Rattle.kripke.proofs.Components.{Mutual}
 use Rattle.kripke.proofs.Picking.{In}
-use Rattle.worked.specs.Tables.{any, every, row, grid, look}
+use Rattle.worked.specs.Tables.{any, every, grid, look}
 use Rattle.worked.specs.Decisions.{Table, among, moves, roads, reached, looped, nexts, near, matches, finer, round, spoken, alike, relation, inside, outside, loops, mutual?}
 use Rattle.worked.proofs.Tests.{Tells, fails, turned, both, either, refuted, implies, equals, tells_bool, tells_eq, tells_any, tells_every, Lists, Draws, lists, draws, lines-look}
 use Rattle.worked.proofs.Closure.{draws_road}

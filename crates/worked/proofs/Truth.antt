@@ -3,7 +3,7 @@ use Rattle.std.proofs.Common.{ℕ, zero, suc, ◌<◌, Bool, true, false, not, �
 use Rattle.kripke.specs.Models.{Frame, Kripke}
 use Rattle.kripke.specs.Paths.{Move, Until, Stays}
 use Rattle.kripke.specs.Formulas.{Formula, top, word, neg, or, until, globally, Holds}
-use Rattle.worked.specs.Tables.{any, row, grid, look}
+use Rattle.worked.specs.Tables.{any, grid, look}
 use Rattle.worked.specs.Decisions.{moves, ways, ends, keeps, truth}
 use Rattle.worked.proofs.Tests as tests
 use Rattle.worked.proofs.Tests.{turned, both, refuted, tells_so, tells_any, Lists, Draws, lists, draws}

@@ -1,4 +1,6 @@
 //! Worked cases: the definitions of a model's classes computed, and what they give on small models.
+#![tactic(auto)]
+
 ghost use Rattle.worked.specs.Claims.{RelationComputed, StComputed, NextComputed, LoopComputed, ClassesComputed, ComponentsComputed};
 ghost use Rattle.worked.specs.Claims.{SettlingComputed, TruthComputed, TotalityComputed, ReductionComputed};
 ghost use Rattle.worked.specs.Cases.{Worked};

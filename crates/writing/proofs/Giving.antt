@@ -1,6 +1,6 @@
 -- The sets and the rows of a model that was measured are given, and none is refused.
-use Rattle.std.proofs.Common.{◌≡◌, ℕ, ◌+◌, ◌<◌, ◌≤◌, min, List, [], ◌∷◌, ◌++◌, map, length, get_or, take, drop, sym, refl, ap, ◌∙◌, subst, zero-add, arith}
-use Rattle.std.specs.List.{flat_map, AllByRecursion as All}
+use Rattle.std.proofs.Common.{◌≡◌, ℕ, ◌+◌, ◌<◌, ◌≤◌, List, [], ◌∷◌, ◌++◌, length, take, drop, sym, refl, ap, ◌∙◌, subst, zero-add, arith}
+use Rattle.std.specs.List.{flat_map}
 use Rattle.std.proofs.ByRecursion.{All-get_or}
 use Rattle.std.proofs.lemmas.List.{flat_map_more, length-append, length-take-le, map_push, take_all, take-append-drop, take-map}
 use Rattle.kripke.specs.Models.{Kripke, words_at}
@@ -11,12 +11,12 @@ use Rattle.codec.specs.Numbers.{code, codes, counted}
 use Rattle.codec.specs.Pieces.{placed}
 use Rattle.codec.proofs.Joins.{joined-append, joined_front}
 use Rattle.codec.proofs.Places.{placed-none, placed_then}
-use Rattle.modelfile.specs.Files.{bits_of, file_of, longest, numbers, Sized, RisingRow, Wide}
+use Rattle.modelfile.specs.Files.{bits_of, file_of, Sized, RisingRow, Wide}
 use Rattle.modelfile.proofs.Walking.{codes_push}
 use Rattle.writing.specs.Appends.{HasSpace}
 use Rattle.writing.specs.Saves.{rows_of, Labelled, Labels, Measured, Saved, space_of}
 use Rattle.writing.specs.Savings.{SetsFit, SetsGiven, RowsFit, RowsGiven}
-use Rattle.writing.specs.Writings.{SetsHold, RowsHold, Filed, Begun, BeginFault, SetDone, SetFault, Turned, RowDone, RowFault, Lacks}
+use Rattle.writing.specs.Writings.{SetsHold, RowsHold, Filed, Begun, BeginFault, SetDone, SetFault, Turned, RowDone, RowFault}
 use Rattle.writing.specs.declared.protocol.Rows.{Rows}
 use Rattle.writing.specs.declared.protocol.Sets.{Sets}
 use Rattle.writing.specs.declared.protocol.WriteFault.{WriteFault}

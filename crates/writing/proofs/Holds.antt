@@ -1,5 +1,5 @@
 -- What the buffer holds after each call of a writing.
-use Rattle.std.proofs.Common.{◌≡◌, ℕ, ◌+◌, ◌<◌, ◌≤◌, List, [], ◌∷◌, ◌++◌, map, length, take, sym, refl, ap, ◌∙◌, subst, zero-add, arith}
+use Rattle.std.proofs.Common.{◌≡◌, ℕ, ◌+◌, ◌≤◌, List, [], ◌∷◌, ◌++◌, length, take, sym, refl, ap, ◌∙◌, subst, zero-add, arith}
 use Rattle.std.specs.List.{AllByRecursion as All}
 use Rattle.std.proofs.ByRecursion.{All-push}
 use Rattle.std.proofs.lemmas.List.{append-nil, length_push, map_push}
@@ -8,7 +8,7 @@ use Rattle.codec.specs.Numbers.{code, codes, counted}
 use Rattle.codec.specs.Pieces.{placed}
 use Rattle.codec.proofs.Joins.{joined-append}
 use Rattle.codec.proofs.Places.{length-placed, take-placed}
-use Rattle.modelfile.specs.Files.{bits_of, file_of, longest, numbers, RisingRow, Wide, Valid}
+use Rattle.modelfile.specs.Files.{bits_of, file_of, numbers, RisingRow, Wide}
 use Rattle.modelfile.proofs.Walking.{codes_push, numbers_push}
 use Rattle.writing.specs.Appends.{HasSpace}
 use Rattle.writing.specs.Writings.{SetsHold, RowsHold, Filed, Begun, SetDone, Turned, RowDone}

@@ -1,6 +1,6 @@
 -- The rows of a model, one state more at a time.
-use Rattle.std.proofs.Common.{◌≡◌, ℕ, ◌+◌, ◌-◌, ◌<◌, ◌≤◌, List, [], ◌∷◌, ◌++◌, map, length, get_or, take, drop, sym, refl, ap, ◌∙◌, subst, inl, inr, zero-add, arith}
-use Rattle.std.specs.List.{range_with_len, AllByRecursion as All}
+use Rattle.std.proofs.Common.{◌≡◌, ℕ, ◌+◌, ◌-◌, ◌<◌, ◌≤◌, List, [], ◌∷◌, ◌++◌, length, get_or, take, drop, sym, ap, ◌∙◌, subst, zero-add, arith}
+use Rattle.std.specs.List.{AllByRecursion as All}
 use Rattle.std.proofs.lemmas.List.FromFn.{length-map-range_with_len, get_or-map-range_with_len}
 use Rattle.std.proofs.ByRecursion.{All-push}
 use Rattle.std.proofs.lemmas.List.{append-nil, length-append, take_all, take_at, take_more}
@@ -11,7 +11,7 @@ use Rattle.codec.specs.Pieces.{placed}
 use Rattle.codec.proofs.Joins.{joined-append}
 use Rattle.modelfile.specs.Files.{bits_of, file_of, numbers, Sized, RisingRow}
 use Rattle.modelfile.proofs.Walking.{numbers_push}
-use Rattle.writing.specs.Saves.{rows_of, Labels, TooShort, RowBad, SaveFault, Measured}
+use Rattle.writing.specs.Saves.{rows_of, Labels, TooShort, SaveFault, Measured}
 use Rattle.writing.specs.Savings.{RowRefused}
 use Rattle.writing.specs.declared.protocol.WriteFault.{WriteFault}
 use Rattle.writing.specs.declared.protocol.WriteFault.TheVariants.{BadSize, NoSpace, AllGiven, Missing, BadRow}

@@ -1,23 +1,21 @@
 -- There and back: proofs.
-use Rattle.std.proofs.Common.{◌≡◌, ℕ, ◌+◌, ◌<◌, ◌≤◌, min, Bool, true, false, cond, ltb, List, [], ◌∷◌, ◌++◌, map, length, get_or, take, drop, Ok, Err, Result, sym, refl, ap, ◌∙◌, subst, inl, inr, ⊎_elim, zero-add, arith, MatchResult}
-use Rattle.std.specs.List.{range_with_len, AllByRecursion as All}
+use Rattle.std.proofs.Common.{◌≡◌, ℕ, ◌<◌, ◌≤◌, false, ltb, List, [], map, length, get_or, take, Ok, Err, Result, sym, refl, ap, ◌∙◌, subst, ⊎_elim, zero-add, arith, MatchResult}
+use Rattle.std.specs.List.{AllByRecursion as All}
 use Rattle.std.proofs.lemmas.List.FromFn.{get_or-map-range_with_len, length-map-range_with_len}
 use Rattle.std.proofs.ByRecursion.{All-get_or}
 use Rattle.std.proofs.lemmas.List.{ext_get_or, get_or-map, get_or-take, length-take, length-take-le, take_all, take-take}
 use Rattle.std.proofs.lemmas.Bool.{cases_lt, cond-true, cond-false, lt-ltb, le-ltb}
-use Rattle.kripke.specs.Models.{Kripke, words_at}
+use Rattle.kripke.specs.Models.{Kripke}
 use Rattle.models.specs.Facts.{fact_words}
 use Rattle.models.specs.declared.facts.Facts.{Facts}
 use Rattle.codec.specs.Pieces.{placed}
-use Rattle.modelfile.specs.Files.{file_of, longest, Sized, RisingRow, Valid, targets_of, offsets_of, model_of}
-use Rattle.modelfile.specs.FirstFault.{Denotes, HoldsStates}
-use Rattle.modelfile.specs.Loads.{Tables, room_of, model_in, Filled, Accepts, Loads}
-use Rattle.modelfile.specs.declared.faults.FileFault.{FileFault}
-use Rattle.modelfile.specs.declared.reading.Loaded.{Loaded}
+use Rattle.modelfile.specs.Files.{file_of, Sized, RisingRow, Valid, targets_of, model_of}
+use Rattle.modelfile.specs.FirstFault.{Denotes}
+use Rattle.modelfile.specs.Loads.{room_of, Filled}
 use Rattle.modelfile.specs.declared.scan.Room.{Room}
 use Rattle.modelfile.proofs.Outcome.{one_outcome}
-use Rattle.writing.specs.Saves.{rows_of, Labelled, Labels, TooShort, RowBad, SaveFault, Saved, Saves, space_of}
-use Rattle.writing.specs.Trips.{SameModel, HoldsFile, ClosedLoadsBack, LoadedAs, SavedLoadsBack, LoadedSavesBack, OneSaving}
+use Rattle.writing.specs.Saves.{rows_of, Labels, TooShort, RowBad, SaveFault, Saved, Saves, space_of}
+use Rattle.writing.specs.Trips.{SameModel, HoldsFile, ClosedLoadsBack, SavedLoadsBack, LoadedSavesBack, OneSaving}
 use Rattle.writing.specs.Writings.{Filed}
 use Rattle.writing.specs.declared.protocol.WriteFault.{WriteFault}
 use Rattle.writing.specs.declared.protocol.WriteFault.TheVariants.{BadSize, NoSpace, AllGiven, Missing, BadRow}

@@ -1,5 +1,5 @@
 -- What save answers and leaves: the file of a whole model.
-use Rattle.std.specs.Prelude.{◌≡◌, ℕ, ◌<◌, ◌≤◌, min, List, [], ◌∷◌, map, length, take, Result, MatchResult, slice_index_or}
+use Rattle.std.specs.Prelude.{◌≡◌, ℕ, ◌<◌, ◌≤◌, min, List, map, length, take, Result, MatchResult, slice_index_or}
 use Rattle.std.specs.List.{range_with_len, AllByRecursion as All}
 use Rattle.kripke.specs.Models.{Kripke, words_at}
 use Rattle.kripke.specs.Words.{SameWords}

@@ -1,5 +1,5 @@
 -- What the parts of save answer.
-use Rattle.std.specs.Prelude.{◌≡◌, ℕ, ◌+◌, ◌<◌, ◌≤◌, List, [], ◌∷◌, length, take, Result, MatchResult}
+use Rattle.std.specs.Prelude.{◌≡◌, ℕ, ◌+◌, ◌<◌, ◌≤◌, List, [], length, take, Result, MatchResult}
 use Rattle.std.specs.List.{flat_map, AllByRecursion as All}
 use Rattle.kripke.specs.Models.{Kripke}
 use Rattle.models.specs.declared.facts.Facts.{Facts}

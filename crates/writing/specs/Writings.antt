@@ -1,5 +1,5 @@
 -- What a writing has written, and what each of its calls answers.
-use Rattle.std.specs.Prelude.{◌≡◌, ℕ, ◌+◌, ◌<◌, ◌≤◌, List, [], ◌∷◌, ◌++◌, length, take, Result, MatchResult}
+use Rattle.std.specs.Prelude.{◌≡◌, ℕ, ◌+◌, ◌<◌, ◌≤◌, List, ◌∷◌, length, take}
 use Rattle.std.specs.List.{AllByRecursion as All}
 use Rattle.models.specs.declared.facts.Facts.{Facts}
 use Rattle.codec.specs.Numbers.{code, codes, counted}

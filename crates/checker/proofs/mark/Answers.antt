@@ -1,4 +1,4 @@
-use Rattle.std.proofs.Common.{◌≡◌, ℕ, ◌<◌, ◌≢◌, length, sym, ◌∙◌, arith, below_more}
+use Rattle.std.proofs.Common.{◌≡◌, sym, ◌∙◌, arith, below_more}
 use Rattle.std.proofs.lemmas.Bool.{both_ways}
 use Rattle.std.proofs.lemmas.List.{get_or-set_same, get_or-set_other}
 use Rattle.sets.specs.Sets.{bit}

@@ -1,4 +1,4 @@
-use Rattle.std.proofs.Common.{◌≡◌, ℕ, ◌+◌, ◌<◌, length, get_or, Some, None, sym, subst, arith, rules}
+use Rattle.std.proofs.Common.{◌≡◌, ◌+◌, ◌<◌, length, Some, None, sym, subst, arith, rules}
 use Rattle.kripke.specs.Models.{move}
 use Rattle.kripke.proofs.Rows.{move_some}
 use Rattle.sets.specs.declared.Set.{Set}

@@ -1,7 +1,6 @@
 use Rattle.std.proofs.Common.{◌≡◌, ℕ, sym, ◌∙◌, subst, inl, inr, ⊎_elim}
 use Rattle.std.proofs.lemmas.Bool.{eqb-true}
 use Rattle.sets.specs.Sets.{bit}
-use Rattle.checker.specs.Tables.{Feeds}
 use Rattle.checker.proofs.Spreads.{until_all, until_more, over}
 use Rattle.checker.proofs.spread.until.Goals as goal
 

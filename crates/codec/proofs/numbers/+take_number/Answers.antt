@@ -1,9 +1,9 @@
-use Rattle.std.proofs.Common.{◌≡◌, ◌+◌, ◌-◌, ◌^◌, ◌<◌, ◌∷◌, length, get_or, sym, ap, ◌∙◌, subst, inl, inr, arith, rules, ltb-false, ltb-true}
+use Rattle.std.proofs.Common.{◌≡◌, ◌+◌, ◌-◌, ◌^◌, ◌<◌, length, get_or, sym, subst, inl, inr, arith, rules, ltb-false, ltb-true}
 use Rattle.std.specs.List.{between}
 use Rattle.std.proofs.lemmas.List.{nil_from_length}
 use Rattle.std.proofs.lemmas.Slice.{first_rest}
 use Rattle.std.proofs.lemmas.Result.{err_from_is_err_and}
-use Rattle.codec.specs.Reading.{Endless, RefusedBelow, Begins}
+use Rattle.codec.specs.Reading.{Endless, RefusedBelow}
 use Rattle.codec.specs.declared.numbers.Flaw.TheVariants.{NotFewest}
 use Rattle.codec.proofs.Coding.{code_last}
 use Rattle.codec.proofs.Standing.{begins_on, refused_on, refused_at, refused_past}

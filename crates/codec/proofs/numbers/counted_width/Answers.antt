@@ -1,4 +1,4 @@
-use Rattle.std.proofs.Common.{◌<◌, length, arith}
+use Rattle.std.proofs.Common.{length, arith}
 use Rattle.std.proofs.lemmas.List.{length-append}
 use Rattle.codec.specs.Numbers.{code, codes}
 use Rattle.codec.proofs.numbers.counted_width.Goals as goal

@@ -1,6 +1,6 @@
-use Rattle.std.proofs.Common.{◌≡◌, ◌+◌, ◌<◌, ◌≤◌, length, refl, arith}
+use Rattle.std.proofs.Common.{◌≡◌, ◌+◌, ◌≤◌, length, arith}
 use Rattle.std.proofs.lemmas.List.{length-append}
-use Rattle.codec.specs.Numbers.{code, codes, counted}
+use Rattle.codec.specs.Numbers.{code, codes}
 use Rattle.codec.proofs.Places.{placed_then}
 use Rattle.codec.proofs.numbers.write_counted.Goals as goal
 

@@ -1,4 +1,4 @@
-use Rattle.std.proofs.Common.{◌≡◌, ◌+◌, ◌^◌, ◌<◌, ◌≤◌, length, arith, rules}
+use Rattle.std.proofs.Common.{◌^◌, ◌<◌, ◌≤◌, length, rules}
 use Rattle.codec.proofs.Standing.{placed_stands}
 use Rattle.codec.proofs.numbers.write_number.Goals as goal
 

@@ -1,7 +1,6 @@
 use Rattle.std.proofs.Common.{sym, subst}
 use Rattle.codec.proofs.Lines.{length-line}
 use Rattle.codec.specs.Pieces.{Measures}
-use Rattle.codec.specs.Texts.{ending}
 use Rattle.codec.proofs.text.line_width.Goals as goal
 
 pub returns : goal.returns

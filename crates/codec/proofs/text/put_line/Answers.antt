@@ -1,4 +1,4 @@
-use Rattle.std.proofs.Common.{◌≤◌, length, decimal, sym, ap, ◌∙◌, arith}
+use Rattle.std.proofs.Common.{◌≤◌, length, sym, ap, ◌∙◌, arith}
 use Rattle.codec.proofs.Lines.{length-line, line_split}
 use Rattle.codec.specs.Pieces.{placed}
 use Rattle.codec.specs.Texts.{ending}

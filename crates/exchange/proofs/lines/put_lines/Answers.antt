@@ -1,4 +1,4 @@
-use Rattle.std.proofs.Common.{ℕ, ◌+◌, ◌≤◌, length, sym, ap, ◌∙◌, arith}
+use Rattle.std.proofs.Common.{◌≤◌, length, ap, ◌∙◌, arith}
 use Rattle.codec.specs.Pieces.{placed}
 use Rattle.codec.proofs.Joins.{joined-all, joined_within, length_step, put_step}
 use Rattle.exchange.specs.declared.lines.Line.TheVariants.{States}

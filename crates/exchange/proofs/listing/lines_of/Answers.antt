@@ -1,4 +1,4 @@
-use Rattle.std.proofs.Common.{sym, refl, ◌∙◌, arith}
+use Rattle.std.proofs.Common.{arith}
 use Rattle.std.proofs.lemmas.Result.{err_from_is_err_and}
 use Rattle.exchange.proofs.Lists.{few_lines, lines_shut, lines_going, lines-all, lines_stuck}
 use Rattle.exchange.proofs.listing.lines_of.Goals as goal

@@ -1,4 +1,4 @@
-use Rattle.std.proofs.Common.{ℕ, ◌+◌, ◌<◌, length, sym, ap, ◌∙◌, arith}
+use Rattle.std.proofs.Common.{◌+◌, sym, ap, ◌∙◌, arith}
 use Rattle.codec.specs.Pieces.{placed}
 use Rattle.codec.proofs.Places.{placed-set}
 use Rattle.exchange.specs.declared.lines.Line.TheVariants.{Member}

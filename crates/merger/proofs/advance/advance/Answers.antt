@@ -1,4 +1,4 @@
-use Rattle.std.proofs.Common.{◌≡◌, refl}
+use Rattle.std.proofs.Common.{refl}
 use Rattle.std.proofs.lemmas.Bool.{eqb-true, eqb-false}
 use Rattle.merger.proofs.Advancing.{numbering_as, wanted_low, wanted_class, like_together, cut_parted}
 use Rattle.merger.proofs.advance.advance.Goals as goal

@@ -1,5 +1,4 @@
 use Rattle.std.proofs.Common.{◌≡◌, ℕ, ◌↔◌, length}
-use Rattle.sets.specs.declared.Set.{Set}
 use Rattle.sets.specs.Sets.{In}
 use Rattle.merger.specs.Grids.{at, set_at, Ahead}
 use Rattle.merger.proofs.Looking.{Along}

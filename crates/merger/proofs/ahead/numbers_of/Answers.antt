@@ -1,4 +1,4 @@
-use Rattle.std.proofs.Common.{◌≡◌, ℕ, subst, arith}
+use Rattle.std.proofs.Common.{ℕ, subst, arith}
 use Rattle.sets.proofs.Bits.{On, none_in}
 use Rattle.merger.proofs.Looking.{looked_none, looked_more, looked_all}
 use Rattle.merger.proofs.ahead.numbers_of.Goals as goal

@@ -1,8 +1,7 @@
 use Rattle.std.proofs.Common.{◌≡◌, ℕ, ◌↔◌, length, refl, ◌∙◌, subst, inl, arith, length-set}
-use Rattle.sets.specs.declared.Set.{Set}
 use Rattle.sets.specs.Sets.{In}
 use Rattle.sets.proofs.Bits.{On, none_in}
-use Rattle.merger.specs.Grids.{at, set_at, Outlook}
+use Rattle.merger.specs.Grids.{Outlook}
 use Rattle.merger.proofs.Looking.{along_more, along_all, outlook_from}
 use Rattle.merger.proofs.ahead.outlooks.Goals as goal
 

@@ -1,7 +1,6 @@
 use Rattle.std.proofs.Common.{◌≡◌, ℕ, ◌↔◌, length}
-use Rattle.sets.specs.declared.Set.{Set}
 use Rattle.sets.specs.Sets.{In}
-use Rattle.merger.specs.Grids.{at, set_at, Ahead, Outlook}
+use Rattle.merger.specs.Grids.{Outlook}
 use Rattle.merger.proofs.Looking.{Along}
 use Rattle.merger.proofs.ahead.outlooks.Given as goal
 

@@ -1,4 +1,4 @@
-use Rattle.std.proofs.Common.{◌≡◌, ℕ, ◌+◌, sym, subst, arith}
+use Rattle.std.proofs.Common.{◌≡◌, ◌+◌, sym, subst, arith}
 use Rattle.std.proofs.lemmas.Bool.{both_ways}
 use Rattle.merger.proofs.Looking.{SharedBelow, shared_none, shared_on, shared_off}
 use Rattle.merger.proofs.ahead.shared.Goals as goal

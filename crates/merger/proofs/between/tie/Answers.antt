@@ -1,4 +1,4 @@
-use Rattle.std.proofs.Common.{◌≡◌, ℕ, ◌<◌, ◌≤◌, length, replicate, refl, ◌∙◌, subst, arith, length-set}
+use Rattle.std.proofs.Common.{◌≡◌, length, replicate, refl, ◌∙◌, subst, arith, length-set}
 use Rattle.sets.specs.Sets.{none}
 use Rattle.merger.specs.Starts.{Tied}
 use Rattle.merger.proofs.Blank.{blank}

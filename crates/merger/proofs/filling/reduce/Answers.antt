@@ -1,7 +1,7 @@
-use Rattle.std.proofs.Common.{◌≡◌, ℕ, ◌+◌, ◌<◌, ◌≤◌, List, set, sym, refl, subst, arith}
+use Rattle.std.proofs.Common.{◌≡◌, ℕ, ◌+◌, ◌<◌, List, set, sym, refl, subst, arith}
 use Rattle.sets.specs.declared.Set.{Set}
 use Rattle.sets.specs.Sets.{none}
-use Rattle.merger.specs.Grids.{at, set_at}
+use Rattle.merger.specs.Grids.{at}
 use Rattle.merger.proofs.Blank.{blank}
 use Rattle.merger.proofs.Drawing.{Sketched, sketched_more, sketched_within, sketched_lands}
 use Rattle.merger.proofs.filling.reduce.Goals as goal

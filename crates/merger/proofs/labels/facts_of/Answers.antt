@@ -1,5 +1,4 @@
-use Rattle.std.proofs.Common.{◌≡◌, ℕ, ◌+◌, ◌<◌, ◌≤◌, List, set, sym, refl, subst, arith}
-use Rattle.merger.specs.Starts.{Spoken}
+use Rattle.std.proofs.Common.{◌≡◌, ℕ, ◌+◌, List, set, sym, refl, subst, arith}
 use Rattle.merger.proofs.Speaking.{Heard, heard_new, heard_old}
 use Rattle.merger.proofs.labels.facts_of.Goals as goal
 use Rattle.merger.proofs.labels.facts_of.Goals.{then-component-s, else-component-s}

@@ -1,4 +1,4 @@
-use Rattle.std.proofs.Common.{◌≡◌, ℕ, ◌<◌, ◌≤◌, ◌↔◌, length, replicate, sym, refl, ◌∙◌, arith, length-set}
+use Rattle.std.proofs.Common.{◌≡◌, ℕ, ◌<◌, ◌↔◌, length, replicate, sym, refl, ◌∙◌, arith, length-set}
 use Rattle.kripke.specs.Words.{SameWords}
 use Rattle.sets.specs.declared.Set.{Set}
 use Rattle.sets.specs.Sets.{bit, In, none}

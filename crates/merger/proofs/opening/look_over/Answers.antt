@@ -1,7 +1,7 @@
-use Rattle.std.proofs.Common.{◌≡◌, ℕ, ◌<◌, ◌≤◌, sym, subst, arith}
+use Rattle.std.proofs.Common.{subst, arith}
 use Rattle.kripke.proofs.Ranking.{ranked_few}
 use Rattle.components.specs.Numbers.{number}
-use Rattle.merger.specs.Grids.{at, set_at}
+use Rattle.merger.specs.Grids.{at}
 use Rattle.merger.specs.Starts.{Spoken}
 use Rattle.merger.proofs.Starting.{spoken_words, linked_passes}
 use Rattle.merger.proofs.opening.look_over.Goals as goal

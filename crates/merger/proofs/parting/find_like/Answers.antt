@@ -1,4 +1,4 @@
-use Rattle.std.proofs.Common.{◌≡◌, ℕ, ◌⊎◌, subst, inl, inr, ⊎_elim}
+use Rattle.std.proofs.Common.{ℕ, subst, inl, inr, ⊎_elim}
 use Rattle.std.proofs.lemmas.Bool.{cases_eq, both_ways}
 use Rattle.sets.proofs.Bits.{On, none_in}
 use Rattle.merger.specs.Grids.{set_at, Same}

@@ -1,4 +1,4 @@
-use Rattle.std.proofs.Common.{◌≡◌, ℕ, ◌<◌, ◌↔◌, [], length, refl, ◌∙◌, arith, length-set}
+use Rattle.std.proofs.Common.{◌≡◌, ℕ, ◌↔◌, [], length, ◌∙◌, arith, length-set}
 use Rattle.sets.specs.Sets.{In}
 use Rattle.merger.specs.Grids.{at, set_at}
 use Rattle.merger.proofs.Tying.{filled_more}

@@ -1,4 +1,4 @@
-use Rattle.std.proofs.Common.{◌≡◌, ℕ, length, replicate, sym, refl, ◌∙◌, subst, arith, length-set}
+use Rattle.std.proofs.Common.{◌≡◌, ℕ, length, replicate, refl, ◌∙◌, subst, arith, length-set}
 use Rattle.merger.specs.Grids.{at}
 use Rattle.sets.proofs.Bits.{On, none_in}
 use Rattle.merger.proofs.Blank.{blank}

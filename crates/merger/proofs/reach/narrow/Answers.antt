@@ -1,7 +1,7 @@
-use Rattle.std.proofs.Common.{◌≡◌, ℕ, ◌<◌, ◌≤◌, ◌↔◌, length, refl, ◌∙◌, subst, arith, length-set}
+use Rattle.std.proofs.Common.{◌≡◌, length, ◌∙◌, arith, length-set}
 use Rattle.sets.specs.Sets.{In}
-use Rattle.merger.specs.Grids.{at, set_at, On}
-use Rattle.merger.proofs.Gathering.{Cut, cut_none, cut_more}
+use Rattle.merger.specs.Grids.{at, set_at}
+use Rattle.merger.proofs.Gathering.{cut_none, cut_more}
 use Rattle.merger.proofs.reach.narrow.Goals as goal
 
 pub loop-k-init : goal.loop-k-init

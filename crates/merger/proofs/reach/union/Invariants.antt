@@ -1,4 +1,4 @@
-use Rattle.std.proofs.Common.{◌*◌, ◌≤◌}
+use Rattle.std.proofs.Common.{◌*◌}
 use Rattle.merger.proofs.Gathering.{Gathered}
 use Rattle.merger.proofs.reach.union.Given as goal
 

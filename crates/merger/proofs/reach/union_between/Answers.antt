@@ -1,4 +1,4 @@
-use Rattle.std.proofs.Common.{◌≡◌, ℕ, ◌+◌, sym, subst, arith}
+use Rattle.std.proofs.Common.{◌≡◌, ◌+◌, sym, subst, arith}
 use Rattle.sets.specs.declared.Set.{Set}
 use Rattle.merger.proofs.Gathering.{Added, added_none, added_off, added_on}
 use Rattle.merger.proofs.reach.union_between.Goals as goal

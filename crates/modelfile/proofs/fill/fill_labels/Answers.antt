@@ -1,4 +1,4 @@
-use Rattle.std.proofs.Common.{◌≡◌, ℕ, ◌<◌, ◌≤◌, length, sym, refl, arith}
+use Rattle.std.proofs.Common.{ℕ, ◌<◌, ◌≤◌, length, sym, refl, arith}
 use Rattle.models.specs.declared.facts.Facts.{Facts}
 use Rattle.codec.proofs.Places.{placed-none}
 use Rattle.modelfile.proofs.Filling.{fill_step, fill_all}

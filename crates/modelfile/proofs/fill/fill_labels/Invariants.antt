@@ -1,4 +1,4 @@
-use Rattle.std.proofs.Common.{◌≡◌, ℕ, List, map, length, take, drop}
+use Rattle.std.proofs.Common.{◌≡◌, ℕ, List, length, take, drop}
 use Rattle.models.specs.declared.facts.Facts.{Facts}
 use Rattle.codec.specs.Pieces.{placed}
 use Rattle.modelfile.specs.Files.{bits_of}

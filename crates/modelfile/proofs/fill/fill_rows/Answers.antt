@@ -1,8 +1,8 @@
-use Rattle.std.proofs.Common.{◌≡◌, ℕ, ◌+◌, ◌^◌, ◌<◌, ◌≤◌, List, [], length, get_or, set, ◌∙◌, arith, rules}
+use Rattle.std.proofs.Common.{◌≡◌, ◌^◌, ◌<◌, ◌≤◌, [], length, get_or, set, ◌∙◌, arith, rules}
 use Rattle.std.specs.List.{AllByRecursion as All}
 use Rattle.std.proofs.ByRecursion.{All-get_or}
 use Rattle.std.proofs.lemmas.List.{length-set}
-use Rattle.modelfile.proofs.Filling.{RowsFilled, offsets_over, row-held, row_stands, rows_all, rows_start, rows_step}
+use Rattle.modelfile.proofs.Filling.{offsets_over, row-held, row_stands, rows_all, rows_start, rows_step}
 use Rattle.modelfile.proofs.fill.fill_rows.Goals as goal
 
 pub loop-state-init : goal.loop-state-init

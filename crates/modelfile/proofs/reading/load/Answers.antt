@@ -1,4 +1,4 @@
-use Rattle.std.proofs.Common.{◌≡◌, ℕ, sym, ◌∙◌, arith}
+use Rattle.std.proofs.Common.{sym, ◌∙◌}
 use Rattle.modelfile.proofs.Meaning.{fronts_mean}
 use Rattle.modelfile.proofs.Denoting.{labels_stand, rows_fit, rows_stand}
 use Rattle.modelfile.proofs.reading.load.Goals as goal

@@ -1,5 +1,4 @@
-use Rattle.std.proofs.Common.{◌≡◌, ◌+◌, ◌<◌, ◌≤◌, length, refl, arith}
-use Rattle.modelfile.specs.Files.{targets_of}
+use Rattle.std.proofs.Common.{◌+◌, ◌<◌, ◌≤◌, refl, arith}
 use Rattle.modelfile.specs.FirstFault.{at_target}
 use Rattle.modelfile.proofs.Walking.{stops, targets_more}
 use Rattle.modelfile.proofs.scan.read_target.Goals as goal

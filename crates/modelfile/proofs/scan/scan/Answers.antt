@@ -1,8 +1,8 @@
-use Rattle.std.proofs.Common.{◌≡◌, ◌≤◌, [], ◌∷◌, length, sym, refl, ap, ◌∙◌, arith, rules}
+use Rattle.std.proofs.Common.{◌≡◌, ◌≤◌, [], ◌∷◌, length, sym, refl, ap, ◌∙◌, arith}
 use Rattle.codec.specs.Numbers.{codes}
 use Rattle.modelfile.specs.Files.{longest}
 use Rattle.modelfile.specs.FirstFault.{at-degree}
-use Rattle.modelfile.proofs.Walking.{stops, all_read, size_place, rows_none}
+use Rattle.modelfile.proofs.Walking.{stops, all_read, size_place}
 use Rattle.modelfile.proofs.scan.scan.Goals as goal
 
 pub returns-then-end-file : goal.returns-then-end-file

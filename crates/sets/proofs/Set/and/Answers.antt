@@ -1,4 +1,4 @@
-use Rattle.sets.proofs.Bits.{On, in_and}
+use Rattle.sets.proofs.Bits.{in_and}
 use Rattle.sets.proofs.Set.and.Goals as goal
 
 pub returns : goal.returns

@@ -1,5 +1,4 @@
-use Rattle.std.proofs.Common.{◌≡◌, length, ap, arith}
-use Rattle.sets.specs.Sets.{members}
+use Rattle.std.proofs.Common.{length, ap, arith}
 use Rattle.sets.proofs.Members.{members_few, members-none, members_split}
 use Rattle.sets.proofs.Set.count.Goals as goal
 

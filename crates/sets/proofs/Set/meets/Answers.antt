@@ -1,4 +1,4 @@
-use Rattle.std.proofs.Common.{◌≡◌, ℕ, ◌^◌, ◌<◌, Bool, true, false, not, eqb, Decides, sym, refl, subst, ⊎_elim, arith, rules}
+use Rattle.std.proofs.Common.{ℕ, ◌^◌, ◌<◌, not, eqb, Decides, subst, arith, rules}
 use lib.Bits.{bit_and}
 use Rattle.std.proofs.lemmas.Bool.{eqb-false, ne_eqb, not-true, not_from_false}
 use Rattle.std.proofs.lemmas.Nat.{and_le_l}

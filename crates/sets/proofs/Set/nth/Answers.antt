@@ -1,6 +1,4 @@
-use Rattle.std.proofs.Common.{◌≡◌, ℕ, ◌<◌, ◌≤◌, length, drop, sym, refl, ap, ◌∙◌, arith}
-use Rattle.std.proofs.lemmas.Bool.{cond_below, le-ltb, cond-false}
-use Rattle.sets.specs.declared.Set.{Set}
+use Rattle.std.proofs.Common.{◌≡◌, refl, ap, ◌∙◌, arith}
 use Rattle.sets.specs.Sets.{members, nth_of}
 use Rattle.sets.proofs.Members.{members-none, members_split, nth_here, nth_past, drop_next, drop-ends}
 use Rattle.sets.proofs.Set.nth.Goals as goal

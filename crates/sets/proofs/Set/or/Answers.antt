@@ -1,4 +1,4 @@
-use Rattle.sets.proofs.Bits.{On, in_or, or_grows}
+use Rattle.sets.proofs.Bits.{in_or, or_grows}
 use Rattle.sets.proofs.Set.or.Goals as goal
 
 pub returns : goal.returns

@@ -1,5 +1,5 @@
 use Rattle.std.proofs.Common.{rules}
-use Rattle.sets.proofs.Bits.{On, in_not}
+use Rattle.sets.proofs.Bits.{in_not}
 use Rattle.sets.proofs.Set.others.Goals as goal
 
 pub returns : goal.returns

@@ -1,8 +1,7 @@
 use Rattle.std.proofs.Common.{◌-◌, ◌^◌, ◌<◌, arith, rules}
-use lib.Bits.{bit_and}
 use lib.Count.{count_trailing_zeros}
 use Rattle.std.proofs.lemmas.Nat.{and_le_r}
-use Rattle.sets.proofs.Bits.{On, in_and, Lowest, lowest}
+use Rattle.sets.proofs.Bits.{in_and, Lowest, lowest}
 use Rattle.sets.proofs.Set.split_first.Goals as goal
 
 pub returns : goal.returns

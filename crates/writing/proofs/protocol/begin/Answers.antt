@@ -1,7 +1,6 @@
-use Rattle.std.proofs.Common.{◌≡◌, ◌≤◌, refl, ap, ◌∙◌, zero-add, arith, rules}
+use Rattle.std.proofs.Common.{ap, ◌∙◌, zero-add, arith}
 use Rattle.modelfile.specs.Files.{Sized}
 use Rattle.writing.specs.Writings.{Begun}
-use Rattle.writing.specs.declared.protocol.Sets.{Sets}
 use Rattle.writing.proofs.Holds.{begun_holds}
 use Rattle.writing.proofs.protocol.begin.Goals as goal
 

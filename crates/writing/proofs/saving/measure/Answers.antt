@@ -1,7 +1,7 @@
-use Rattle.std.proofs.Common.{◌≡◌, ℕ, ◌<◌, ◌≤◌, sym, ◌∙◌, subst, arith, rules}
+use Rattle.std.proofs.Common.{◌≤◌, arith, rules}
 use Rattle.std.proofs.lemmas.Result.{err_from_is_err_and}
 use Rattle.modelfile.specs.Files.{Sized}
-use Rattle.writing.proofs.Measuring.{measured_none, measured_more, measured_all, labels_over, row_refused_lem}
+use Rattle.writing.proofs.Measuring.{measured_more, measured_all, row_refused_lem}
 use Rattle.writing.proofs.saving.measure.Goals as goal
 
 pub returns-in_err-wide : goal.returns-in_err-wide

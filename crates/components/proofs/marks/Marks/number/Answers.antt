@@ -1,4 +1,4 @@
-use Rattle.std.proofs.Common.{◌<◌, length, refl, arith, rules}
+use Rattle.std.proofs.Common.{◌<◌, length, arith, rules}
 use Rattle.components.proofs.Numbers.{giving_none, giving_old, giving_new, giving_same}
 use Rattle.components.proofs.marks.Marks.number.Goals as goal
 use Rattle.components.proofs.marks.Marks.number.Goals.{in-Some, in-None}

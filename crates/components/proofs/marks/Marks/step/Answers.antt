@@ -1,8 +1,6 @@
-use Rattle.std.proofs.Common.{◌≡◌, ◌<◌, ◌≤◌, length, ap, ⊎_elim, arith}
+use Rattle.std.proofs.Common.{◌≤◌, length, ap, ⊎_elim, arith}
 use Rattle.std.proofs.lemmas.Bool.{cases_eq}
-use Rattle.components.specs.Held.{held}
 use Rattle.components.specs.Inner.{inner}
-use Rattle.components.specs.Walks.{Next}
 use Rattle.components.proofs.Inner.{inner_short, inner_some, inner-none}
 use Rattle.components.proofs.Steps.{state_inside, at-inside, count_inside, space, followed, shut, passed}
 use Rattle.components.proofs.marks.Marks.step.Goals as goal

@@ -1,4 +1,4 @@
-use Rattle.std.proofs.Common.{◌≡◌, ℕ, ◌+◌, List, length, sym, subst, arith}
+use Rattle.std.proofs.Common.{◌≡◌, ◌+◌, List, length, sym, subst, arith}
 use Rattle.merger.specs.declared.lists.Answer.{Answer}
 use Rattle.merger.proofs.Rounding.{settling}
 use Rattle.merger.proofs.Making.{Sofar, sofar_none, sofar_put, sofar_past, performed}

@@ -1,12 +1,7 @@
-use Rattle.std.proofs.Common.{◌≡◌, ℕ, ◌<◌, ◌≤◌, sym, refl, subst, arith}
+use Rattle.std.proofs.Common.{refl, arith}
 use Rattle.std.proofs.lemmas.Result.{err_from_is_err_and}
-use Rattle.kripke.specs.Models.{Kripke}
 use Rattle.kripke.proofs.Ranking.{ranked_few}
-use Rattle.merger.specs.declared.tables.Found.{Found}
-use Rattle.merger.specs.declared.tables.Rounds.{Rounds}
-use Rattle.merger.specs.Tables.{part, class_of}
-use Rattle.merger.specs.Starts.{Started}
-use Rattle.merger.specs.Analysed.{Surveyed, Tabled}
+use Rattle.merger.specs.Tables.{part}
 use Rattle.merger.proofs.Promising.{tabled_promise}
 use Rattle.merger.proofs.Starting.{early, begun}
 use Rattle.merger.proofs.analysis.Analysis.open.Goals as goal

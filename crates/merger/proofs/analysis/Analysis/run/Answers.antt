@@ -1,4 +1,4 @@
-use Rattle.std.proofs.Common.{◌≡◌, ℕ, suc, ◌+◌, ◌-◌, ◌<◌, ◌≤◌, min, true, sym, refl, subst, arith}
+use Rattle.std.proofs.Common.{◌≡◌, suc, ◌+◌, ◌<◌, true, subst, arith}
 use Rattle.std.proofs.lemmas.Bool.{both_ways}
 use Rattle.merger.specs.declared.analysis.Analysis.{Analysis}
 use Rattle.merger.specs.Calls.{Analysed}

@@ -1,4 +1,3 @@
-use Rattle.std.proofs.Common.{◌≡◌, refl}
 use Rattle.merger.proofs.Rounding.{meant_bounded, meant_advanced, tabled_advanced}
 use Rattle.merger.proofs.analysis.Analysis.step.Goals as goal
 

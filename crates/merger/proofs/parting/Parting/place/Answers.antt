@@ -1,5 +1,4 @@
-use Rattle.std.proofs.Common.{◌≡◌, ℕ, ◌+◌, ◌-◌, ◌<◌, ◌≤◌, length, sym, refl, ap, ◌∙◌, subst, arith}
-use Rattle.merger.specs.Placing.{Placed}
+use Rattle.std.proofs.Common.{ap, ◌∙◌, arith}
 use Rattle.merger.specs.declared.parting.Parting.{Parting}
 use Rattle.merger.proofs.Placing.{placed_old, placed_new}
 use Rattle.merger.proofs.parting.Parting.place.Goals as goal

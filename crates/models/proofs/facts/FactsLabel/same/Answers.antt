@@ -1,4 +1,4 @@
-use Rattle.std.proofs.Common.{◌≡◌, ℕ, ◌^◌, ◌<◌, ◌&&◌, eqb, ltb, ap, rules}
+use Rattle.std.proofs.Common.{◌^◌, ◌<◌, ◌&&◌, ltb, ap, rules}
 use Rattle.std.proofs.lemmas.Bool.{eqb-true, eq-eqb, lt-ltb}
 use Rattle.kripke.specs.Words.{bit}
 use Rattle.models.proofs.Bits.{same_from_bits}

@@ -1,4 +1,4 @@
-use Rattle.std.proofs.Common.{◌≡◌, ◌<◌, false, ltb, sym, ◌∙◌, rules}
+use Rattle.std.proofs.Common.{◌<◌, false, ltb, sym, ◌∙◌, rules}
 use Rattle.std.proofs.lemmas.Bool.{cond-true, lt-ltb}
 use Rattle.kripke.specs.Kinds.{listed_size}
 use Rattle.kripke.proofs.Tables.{listed_words}

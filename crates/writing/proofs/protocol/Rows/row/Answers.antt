@@ -1,4 +1,4 @@
-use Rattle.std.proofs.Common.{◌≡◌, ◌+◌, ◌<◌, ap, rules}
+use Rattle.std.proofs.Common.{◌+◌, ◌<◌, ap, rules}
 use Rattle.modelfile.specs.Files.{RisingRow}
 use Rattle.writing.specs.Writings.{RowDone}
 use Rattle.writing.proofs.Holds.{row_holds}

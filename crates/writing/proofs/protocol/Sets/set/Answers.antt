@@ -1,4 +1,4 @@
-use Rattle.std.proofs.Common.{◌≡◌, ◌+◌, ◌<◌, ap, rules}
+use Rattle.std.proofs.Common.{◌+◌, ◌<◌, ap, rules}
 use Rattle.modelfile.specs.Files.{Wide}
 use Rattle.writing.specs.Writings.{SetDone}
 use Rattle.writing.proofs.Holds.{set_holds}
