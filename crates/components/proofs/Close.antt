@@ -1,6 +1,6 @@
 -- The walk leaves a state from which no lower one is reached: what stands from it up is a component.
 use Rattle.std.proofs.Common.{◌≡◌, ℕ, ◌+◌, ◌<◌, ◌≤◌, ◌⊎◌, List, [], ◌∷◌, length, sym, refl, ap, ◌∙◌, subst, inl, inr, ⊎_elim, arith}
-use Rattle.std.specs.List.{AllByRecursion as All}
+use Rattle.std.specs.List.{AllByRecursion}
 use Rattle.std.proofs.lemmas.Bool.{cases_lt}
 use Rattle.components.specs.Reach.{Edge, Leads, target}
 use Rattle.components.specs.Walks.{Mark, Pending, Settled, IsDone, Listed, Inv, Turned}
@@ -56,7 +56,7 @@ module _ (rows : ℕ → List ℕ) (P P' : ℕ → Place) (nums nums' : List ℕ
   settled j le (Open q) (inl h) = inr (q, refl, omega arith)
   settled j le (Open q) (inr h) = absurd (omega (arith, h.0))
 
-  below-w : (vs : List Walk) → All (λ v. v.at < w.at) vs → All (Mark rows P) vs → (s j k : ℕ) → P s ≡ Open j → w.at ≤ j → Pending vs s k → ⊥
+  below-w : (vs : List Walk) → AllByRecursion (λ v. v.at < w.at) vs → AllByRecursion (Mark rows P) vs → (s j k : ℕ) → P s ≡ Open j → w.at ≤ j → Pending vs s k → ⊥
   below-w [] r m s j k o le p = p
   below-w (v ∷ vs) r m s j k o le (inl p) =
       let e : v.at ≡ j = open_open m.0.0 (ap P p.0 ∙ o) in omega (arith, r.0)
@@ -104,7 +104,7 @@ module _ (rows : ℕ → List ℕ) (P P' : ℕ → Place) (nums nums' : List ℕ
       (λ hs. ⊎_elim (λ ht. absurd (clash t s e ht hs.0 q)) (λ ht. hs.1 ∙ sym ht.1) (was-done t e ot))
       (was-done s d os)
 
-  marks' : (vs : List Walk) → All (λ v. v.at < w.at) vs → All (Mark rows P) vs → All (Mark rows P') vs
+  marks' : (vs : List Walk) → AllByRecursion (λ v. v.at < w.at) vs → AllByRecursion (Mark rows P) vs → AllByRecursion (Mark rows P') vs
   marks' [] r m = tt
   marks' (v ∷ vs) r m =
       let lt : v.at < w.at = r.0 in

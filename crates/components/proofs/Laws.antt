@@ -1,6 +1,6 @@
 -- Laws of paths, places and walks.
 use Rattle.std.proofs.Common.{◌≡◌, ℕ, ◌<◌, ◌≤◌, List, [], ◌∷◌, length, inl, inr, ⊎_elim, arith}
-use Rattle.std.specs.List.{AllByRecursion as All}
+use Rattle.std.specs.List.{AllByRecursion}
 use Rattle.components.specs.Reach.{Reach, Leads, stop, go}
 use Rattle.components.specs.Walks.{Any, Mark, Back, At, Inv}
 use Rattle.components.specs.declared.marks.Place.{Place}
@@ -21,12 +21,12 @@ any-map f [] a = absurd a
 any-map f (x ∷ xs) (inl p) = inl (f x p)
 any-map f (x ∷ xs) (inr a) = inr (any-map f xs a)
 
-pub any-all : {X : Type 0} {P Q : X → Type 0} {R : Type 0} → ((x : X) → Q x → P x → R) → (xs : List X) → All Q xs → Any P xs → R
+pub any-all : {X : Type 0} {P Q : X → Type 0} {R : Type 0} → ((x : X) → Q x → P x → R) → (xs : List X) → AllByRecursion Q xs → Any P xs → R
 any-all f [] q a = absurd a
 any-all f (x ∷ xs) q (inl p) = f x q.0 p
 any-all f (x ∷ xs) q (inr a) = any-all f xs q.1 a
 
-pub all_map : {X : Type 0} {P Q : X → Type 0} → ((x : X) → P x → Q x) → (xs : List X) → All P xs → All Q xs
+pub all_map : {X : Type 0} {P Q : X → Type 0} → ((x : X) → P x → Q x) → (xs : List X) → AllByRecursion P xs → AllByRecursion Q xs
 all_map f [] a = tt
 all_map f (x ∷ xs) a = (f x a.0, all_map f xs a.1)
 
@@ -55,7 +55,7 @@ to_top rows P nums w ws c I s j o = ⊎_elim (λ b. b.1) down (I.back s j o)
     both : (v : Walk) → (v.at < w.at) × Mark rows P v → (v.at ≤ j) × Leads rows s v.state → Leads rows s w.state
     both v q b = join b.1 (I.onward v.state w.state v.at w.at q.1.0 I.marks.0.0 (omega (arith, q.0)))
 
-    pairs : (vs : List Walk) → All (λ v. v.at < w.at) vs → All (Mark rows P) vs → All (λ v. (v.at < w.at) × Mark rows P v) vs
+    pairs : (vs : List Walk) → AllByRecursion (λ v. v.at < w.at) vs → AllByRecursion (Mark rows P) vs → AllByRecursion (λ v. (v.at < w.at) × Mark rows P v) vs
     pairs [] a m = tt
     pairs (v ∷ vs) a m = ((a.0, m.0), pairs vs a.1 m.1)
 

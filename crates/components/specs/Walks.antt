@@ -1,6 +1,6 @@
 -- What the component walk keeps true of its places, its two stacks and its count.
 use Rattle.std.specs.Prelude.{◌≡◌, ℕ, zero, suc, ◌+◌, ◌-◌, ◌*◌, ◌<◌, ◌≤◌, min, ◌⊎◌, List, [], ◌∷◌, length, drop, slice_index_or, slice_set}
-use Rattle.std.specs.List.{AllByRecursion as All}
+use Rattle.std.specs.List.{AllByRecursion}
 use Rattle.kripke.specs.Models.{Frame}
 use Rattle.components.specs.Reach.{Leads, target}
 use Rattle.components.specs.declared.marks.Place.{Place}
@@ -15,7 +15,7 @@ Any P (x ∷ xs) = P x ⊎ Any P xs
 -- the walk's states stand ever higher, the newest first
 abbrev pub Climbs : List Walk → Type 0
 Climbs [] = Unit {0}
-Climbs (w ∷ ws) = All (λ v. v.at < w.at) ws × Climbs ws
+Climbs (w ∷ ws) = AllByRecursion (λ v. v.at < w.at) ws × Climbs ws
 
 -- a state of the walk is open, and leads to the one at its low mark
 abbrev pub Mark : (ℕ → List ℕ) → (ℕ → Place) → Walk → Type 0
@@ -68,7 +68,7 @@ pub record Listed (P : ℕ → Place) (nums : List ℕ) : Type 0 where
 -- what holds between any two steps: P has the place of each state, nums and ws are the two stacks, c components are closed
 pub record Inv (rows : ℕ → List ℕ) (P : ℕ → Place) (nums : List ℕ) (ws : List Walk) (c : ℕ) : Type 0 where
   pub climbs : Climbs ws
-  pub marks : All (Mark rows P) ws
+  pub marks : AllByRecursion (Mark rows P) ws
   pub onward : (s t i j : ℕ) → P s ≡ Open i → P t ≡ Open j → i ≤ j → Leads rows s t
   pub back : (s j : ℕ) → P s ≡ Open j → Back rows ws s j
   pub moves : (s j k : ℕ) → P s ≡ Open j → k < length (rows s) → Pending ws s k ⊎ Settled ws j (P (target rows s k))

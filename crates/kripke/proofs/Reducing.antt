@@ -2,7 +2,7 @@
 use Rattle.std.proofs.Common.{◌≡◌, ℕ, ◌<◌, ◌≤◌, ◌⊎◌, ◌↔◌, List, [], length, sym, refl, ◌∙◌, subst, inl, inr, arith}
 use mathlib.Core.Logic.Dec
 use native.Mathlib.Decide.{ℕ_discrete, dec_lt}
-use Rattle.std.specs.List.{AllByRecursion as All}
+use Rattle.std.specs.List.{AllByRecursion}
 use Rattle.std.proofs.ByRecursion.{All-from_get_or}
 use Rattle.kripke.specs.Words.{SameWords}
 use Rattle.kripke.specs.Models.{Frame, Kripke, WellFormed, Lands, nowhere}
@@ -118,7 +118,7 @@ module _ (M : Kripke) (formed : WellFormed M) (r m : ℕ) (c : ℕ → ℕ) (N :
       few_states = omega (arith, ranked_few F.size m c N.ranked, formed.frame.few_states);
       few_moves = λ i. row-each (λ l. length l ≤ 4096) (omega arith)
           (λ i h l p. omega (arith, p.short, ranked_few F.size m c N.ranked, formed.frame.few_states)) i (dec_lt i m);
-      lands = λ i. row-each (All (Lands m)) tt
+      lands = λ i. row-each (AllByRecursion (Lands m)) tt
           (λ i h l p. All-from_get_or (Lands m) l nowhere (λ k b. inl (let e = p.high k b in omega arith))) i (dec_lt i m);
       no_moves = λ i h. row-none i h (dec_lt i m);
     };

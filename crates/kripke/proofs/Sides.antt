@@ -1,6 +1,6 @@
 -- Two sound graphs side by side are sound, and so are their labels.
 use Rattle.std.proofs.Common.{◌≡◌, ℕ, ◌-◌, ◌<◌, ◌≤◌, false, ltb, List, [], map, length, arith}
-use Rattle.std.specs.List.{AllByRecursion as All}
+use Rattle.std.specs.List.{AllByRecursion}
 use Rattle.std.proofs.ByRecursion.{All-map, All-weaker}
 use Rattle.std.proofs.lemmas.List.{length-map}
 use Rattle.std.proofs.lemmas.Bool.{cond_both, ltb-true}
@@ -23,7 +23,7 @@ pub beside_sound : (l r : Frame) → SoundFrame l → SoundFrame r → SoundFram
 beside_sound l r wl wr = record {
   few_states = grind (arith, nat_tests);
   few_moves = λ s. side_rows l r (λ row. length row ≤ 4096) s (omega arith) (λ _. wl.few_moves s) (λ _. simp length-map (wr.few_moves (s - l.size)));
-  lands = λ s. side_rows l r (All (Lands (beside_frame l r).size)) s tt
+  lands = λ s. side_rows l r (AllByRecursion (Lands (beside_frame l r).size)) s tt
       (λ h. All-weaker (Lands l.size) (Lands (beside_frame l r).size) (λ t e. grind (arith, nat_tests)) (l.row s) (wl.lands s))
       (λ h. All-map (Lands (beside_frame l r).size) (shifted l.size) (r.row (s - l.size)) (All-weaker (Lands r.size) (λ t. Lands (beside_frame l r).size (shifted l.size t)) (λ t e. grind (arith, nat_tests)) (r.row (s - l.size)) (wr.lands (s - l.size))));
   no_moves = λ s h. grind (arith, nat_tests);

@@ -1,7 +1,7 @@
 -- A Kripke model: numbered states with their moves, and the words of each state.
 -- The moves alone are a frame, and whatever does not ask for words is said of frames.
 use Rattle.std.specs.Prelude.{◌≡◌, ℕ, ◌<◌, ◌≤◌, Bool, false, cond, ◌⊎◌, List, [], length, Some, None, Decides, Option, nat_lt, slice_index_or}
-use Rattle.std.specs.List.{AllByRecursion as All}
+use Rattle.std.specs.List.{AllByRecursion}
 use Rattle.kripke.specs.Words.{Words, SameWords, Within}
 
 -- where a move goes that goes to no state
@@ -30,7 +30,7 @@ Lands n t = (t < n) ⊎ (t ≡ nowhere)
 pub record SoundFrame (F : Frame) : Type 0 where
   pub few_states : F.size ≤ 4096
   pub few_moves : (s : ℕ) → length (F.row s) ≤ 4096
-  pub lands : (s : ℕ) → All (Lands F.size) (F.row s)
+  pub lands : (s : ℕ) → AllByRecursion (Lands F.size) (F.row s)
   pub no_moves : (s : ℕ) → F.size ≤ s → F.row s ≡ []
 
 -- at most 64 words, and none at or above the count holds

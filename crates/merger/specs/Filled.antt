@@ -1,7 +1,7 @@
 -- What a reduced model means, from its tables: the words of each state as bits, and the states that it moves to as a set.
 use Rattle.std.specs.Prelude.{ℕ, ◌<◌, ◌≤◌, cond, List, [], length, nat_lt, slice_index}
 use Rattle.std.proofs.Common.{inl, arith}
-use Rattle.std.specs.List.{AllByRecursion as All}
+use Rattle.std.specs.List.{AllByRecursion}
 use Rattle.std.proofs.lemmas.Bool.{cond_both, cond-false, le-ltb}
 use Rattle.std.proofs.ByRecursion.{All-from_get_or}
 use Rattle.kripke.specs.Words.{Within}
@@ -29,7 +29,7 @@ filled_formed n count facts moves few spoken within lands = record {
     few_states = omega arith;
     few_moves = λ s. cond_both (nat_lt s n) (members (set_at moves s)) [] (λ row. length row ≤ 4096)
         (λ e. let b = members_few (set_at moves s) in omega arith) (λ e. omega arith);
-    lands = λ s. cond_both (nat_lt s n) (members (set_at moves s)) [] (λ row. All (Lands n) row)
+    lands = λ s. cond_both (nat_lt s n) (members (set_at moves s)) [] (λ row. AllByRecursion (Lands n) row)
         (λ e. All-from_get_or (Lands n) (members (set_at moves s)) 0 (λ i l. inl (lands s (slice_index (members (set_at moves s)) i) (members_in (set_at moves s) i 0 l))))
         (λ e. tt);
     no_moves = λ s past. cond-false (nat_lt s n) (members (set_at moves s)) [] (le-ltb s n past);

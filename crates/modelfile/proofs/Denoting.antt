@@ -1,6 +1,6 @@
 -- What follows from what a file denotes: where its numbers stand, and how many there are.
 use Rattle.std.proofs.Common.{◌≡◌, ℕ, ◌^◌, ◌<◌, ◌≤◌, List, [], ◌∷◌, length, sym, ap, ◌∙◌, subst, zero-add, arith}
-use Rattle.std.specs.List.{flat_map, AllByRecursion as All}
+use Rattle.std.specs.List.{flat_map, AllByRecursion}
 use Rattle.std.proofs.ByRecursion.{All-append, All-map, All-weaker}
 use Rattle.std.proofs.lemmas.List.{length-append, take_all}
 use Rattle.models.specs.declared.facts.Facts.{Facts}
@@ -13,14 +13,14 @@ use Rattle.modelfile.specs.declared.scan.Room.{Room}
 use Rattle.modelfile.proofs.Rise.{few_rise}
 use Rattle.modelfile.proofs.Filling.{seq_split}
 
-small_rows : (n : ℕ) → n ≤ 4096 → (rows : List (List ℕ)) → All (RisingRow n) rows → All (λ m. m < 2 ^ 64) (flat_map counted rows)
+small_rows : (n : ℕ) → n ≤ 4096 → (rows : List (List ℕ)) → AllByRecursion (RisingRow n) rows → AllByRecursion (λ m. m < 2 ^ 64) (flat_map counted rows)
 small_rows n few [] h = tt
 small_rows n few (row ∷ rows) h =
     let short = few_rise n row h.0 in
     (omega arith, All-append (λ m. m < 2 ^ 64) row (flat_map counted rows) (All-weaker (λ t. t < n) (λ m. m < 2 ^ 64) (λ t l. omega arith) row h.0.below) (small_rows n few rows h.1))
 
 -- each number of a file is below 2^64
-small_numbers : (labels : List Facts) (rows : List (List ℕ)) → Valid labels rows → All (λ m. m < 2 ^ 64) (numbers labels rows)
+small_numbers : (labels : List Facts) (rows : List (List ℕ)) → Valid labels rows → AllByRecursion (λ m. m < 2 ^ 64) (numbers labels rows)
 small_numbers labels rows valid =
     let few = valid.sized.1 in (
       omega arith,
@@ -34,8 +34,8 @@ targets_count : (rows : List (List ℕ)) → length (targets_of rows) ≤ length
 targets_count [] = omega arith
 targets_count (row ∷ rows) = omega (arith, targets_count rows, length-append row (targets_of rows), length-append row (flat_map counted rows))
 
-pub short_rows : (n : ℕ) → n ≤ 4096 → (rows : List (List ℕ)) → All (RisingRow n) rows → All (All (λ t. t < 4096)) rows
-short_rows n few rows h = All-weaker (RisingRow n) (All (λ t. t < 4096)) (λ row r. All-weaker (λ t. t < n) (λ t. t < 4096) (λ t l. omega arith) row r.below) rows h
+pub short_rows : (n : ℕ) → n ≤ 4096 → (rows : List (List ℕ)) → AllByRecursion (RisingRow n) rows → AllByRecursion (AllByRecursion (λ t. t < 4096)) rows
+short_rows n few rows h = All-weaker (RisingRow n) (AllByRecursion (λ t. t < 4096)) (λ row r. All-weaker (λ t. t < n) (λ t. t < 4096) (λ t l. omega arith) row r.below) rows h
 
 module _ (t : Room) (file : List ℕ) (labels : List Facts) (rows : List (List ℕ)) (denotes : Denotes t file labels rows) where
   whole : Sequence file 0 (numbers labels rows) (length file)

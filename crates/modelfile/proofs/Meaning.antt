@@ -1,7 +1,7 @@
 -- The tables that load fills mean the model that the file denotes.
 use Rattle.std.proofs.Common.{◌≡◌, ℕ, zero, suc, ◌+◌, ◌-◌, ◌<◌, ◌≤◌, ltb, List, [], ◌∷◌, ◌++◌, map, length, get_or, take, drop, sym, refl, ap, ◌∙◌, inl, inr, arith}
 use mathlib.Core.Path.{fun_ext}
-use Rattle.std.specs.List.{AllByRecursion as All}
+use Rattle.std.specs.List.{AllByRecursion}
 use Rattle.std.proofs.ByRecursion.{All-get_or}
 use Rattle.std.proofs.lemmas.List.{drop_at, drop_more, get_or_past, length-append, take-append-drop, take_at}
 use Rattle.std.proofs.lemmas.Bool.{cases_lt, cond-true, cond-false, lt-ltb, le-ltb}
@@ -35,14 +35,14 @@ targets_parted rows s h =
 span-row : (targets : List ℕ) (from to : ℕ) → from ≤ to → to ≤ length targets → to ≤ from + 4096 → span targets from to ≡ take (to - from) (drop from targets)
 span-row targets from to a b c = grind (arith, nat_tests)
 
-told_same : (n : ℕ) (row : List ℕ) → All (λ t. t < n) row → map (told n) row ≡ row
+told_same : (n : ℕ) (row : List ℕ) → AllByRecursion (λ t. t < n) row → map (told n) row ≡ row
 told_same n [] h = refl
 told_same n (t ∷ row) h =
     let first : told n t ≡ t = cond-true (ltb t n) _ _ (lt-ltb t n h.0) in
     ap (λ u. u ∷ map (told n) row) first ∙ ap (λ us. t ∷ us) (told_same n row h.1)
 
 -- the row of a state
-row_told : (n : ℕ) (rows : List (List ℕ)) (s : ℕ) → n ≤ 4096 → length rows ≡ n → All (RisingRow n) rows → s < n → map (told n) (table_row n (offsets_of rows) (targets_of rows) s) ≡ get_or rows s []
+row_told : (n : ℕ) (rows : List (List ℕ)) (s : ℕ) → n ≤ 4096 → length rows ≡ n → AllByRecursion (RisingRow n) rows → s < n → map (told n) (table_row n (offsets_of rows) (targets_of rows) s) ≡ get_or rows s []
 row_told n rows s few each rising h =
     let row = get_or rows s [] in
     let inside : s < length rows = omega arith in

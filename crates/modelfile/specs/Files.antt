@@ -1,6 +1,6 @@
 -- What a model file holds, its bytes, and how lent tables hold the same.
 use Rattle.std.specs.Prelude.{◌≡◌, ℕ, ◌+◌, ◌^◌, ◌<◌, ◌≤◌, List, [], ◌∷◌, ◌++◌, map, length, slice_index_or}
-use Rattle.std.specs.List.{flat_map, AllByRecursion as All}
+use Rattle.std.specs.List.{flat_map, AllByRecursion}
 use Rattle.kripke.specs.Kinds.{listed_labels}
 use Rattle.kripke.specs.Models.{Kripke}
 use Rattle.kripke.specs.Reduced.{Rising}
@@ -31,7 +31,7 @@ Sized n = (1 ≤ n) × (n ≤ 4096)
 -- a row of a file with n states: the targets strictly rise, and each is a state
 pub record RisingRow (n : ℕ) (row : List ℕ) : Type 0 where
   pub rises : Rising row
-  pub below : All (λ t. t < n) row
+  pub below : AllByRecursion (λ t. t < n) row
 
 -- a label is a number of 64 bits
 abbrev pub Wide : Facts → Type 0
@@ -40,9 +40,9 @@ Wide x = x.bits < 2 ^ 64
 -- what a file may hold: for each state a label and a row
 pub record Valid (labels : List Facts) (rows : List (List ℕ)) : Type 0 where
   pub sized : Sized (length labels)
-  pub wide : All Wide labels
+  pub wide : AllByRecursion Wide labels
   pub each : length rows ≡ length labels
-  pub rising : All (RisingRow (length labels)) rows
+  pub rising : AllByRecursion (RisingRow (length labels)) rows
 
 -- the targets of all rows, one row after the other
 abbrev pub targets_of : List (List ℕ) → List ℕ

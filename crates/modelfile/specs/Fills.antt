@@ -1,6 +1,6 @@
 -- Numbers that stand one after another in a file, for the second pass, which fills the tables.
 use Rattle.std.specs.Prelude.{◌≡◌, ℕ, ◌+◌, ◌^◌, ◌<◌, ◌≤◌, List, ◌++◌, length, take}
-use Rattle.std.specs.List.{flat_map, AllByRecursion as All}
+use Rattle.std.specs.List.{flat_map, AllByRecursion}
 use Rattle.codec.specs.Numbers.{codes, counted}
 use Rattle.modelfile.specs.Files.{targets_of}
 
@@ -8,7 +8,7 @@ use Rattle.modelfile.specs.Files.{targets_of}
 pub record Sequence (file : List ℕ) (from : ℕ) (ns : List ℕ) (next : ℕ) : Type 0 where
   pub on : from ≤ next
   pub inside : next ≤ length file
-  pub small : All (λ n. n < 2 ^ 64) ns
+  pub small : AllByRecursion (λ n. n < 2 ^ 64) ns
   pub text : take next file ≡ take from file ++ codes ns
 
 -- a row stands at the place, and a table of so many targets has room for it from an index on
@@ -17,7 +17,7 @@ pub record RowFits (file : List ℕ) (from room begin : ℕ) : Type 0 where
   pub next : ℕ
   pub stands : Sequence file from (counted row) next
   pub held : begin + length row ≤ room
-  pub short : All (λ t. t < 4096) row
+  pub short : AllByRecursion (λ t. t < 4096) row
 
 -- rows stand at the place, one for each state, and tables of so many offsets and targets have room for them
 pub record RowsFit (file : List ℕ) (from states offsets targets : ℕ) : Type 0 where
@@ -28,4 +28,4 @@ pub record RowsFit (file : List ℕ) (from states offsets targets : ℕ) : Type 
   pub offsets_held : states + 1 ≤ offsets
   pub targets_held : length (targets_of rows) ≤ targets
   pub few : length (targets_of rows) < 2 ^ 32
-  pub short : All (All (λ t. t < 4096)) rows
+  pub short : AllByRecursion (AllByRecursion (λ t. t < 4096)) rows

@@ -2,7 +2,7 @@
 -- The numbers of a file are judged as they come. At each of them the causes have one order: the number itself (1, 2),
 -- its range (3), whether it rises (4), room in the tables (5). What was read before a fault is right.
 use Rattle.std.specs.Prelude.{◌≡◌, ℕ, ◌+◌, ◌<◌, ◌≤◌, ◌⊎◌, List, [], ◌∷◌, ◌++◌, length, take}
-use Rattle.std.specs.List.{AllByRecursion as All}
+use Rattle.std.specs.List.{AllByRecursion}
 use Rattle.kripke.specs.Reduced.{Rising}
 use Rattle.models.specs.declared.facts.Facts.{Facts}
 use Rattle.codec.specs.Numbers.{codes}
@@ -35,13 +35,13 @@ pub record RightLabels (t : Room) (n : ℕ) (labels : List Facts) : Type 0 where
   pub sized : Sized n
   pub held : HoldsStates t n
   pub few : length labels ≤ n
-  pub wide : All Wide labels
+  pub wide : AllByRecursion Wide labels
 
 -- besides all labels, the rows read so far are right
 pub record RightRows (t : Room) (labels : List Facts) (rows : List (List ℕ)) : Type 0 where
   pub labelled : RightLabels t (length labels) labels
   pub few : length rows ≤ length labels
-  pub rising : All (RisingRow (length labels)) rows
+  pub rising : AllByRecursion (RisingRow (length labels)) rows
   pub held : length (targets_of rows) ≤ t.targets
 
 -- besides these rows, the degree of the next and its targets read so far are right

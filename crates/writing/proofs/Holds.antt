@@ -1,6 +1,6 @@
 -- What the buffer holds after each call of a writing.
 use Rattle.std.proofs.Common.{◌≡◌, ℕ, ◌+◌, ◌≤◌, List, [], ◌∷◌, ◌++◌, length, take, sym, refl, ap, ◌∙◌, subst, zero-add, arith}
-use Rattle.std.specs.List.{AllByRecursion as All}
+use Rattle.std.specs.List.{AllByRecursion}
 use Rattle.std.proofs.ByRecursion.{All-push}
 use Rattle.std.proofs.lemmas.List.{append-nil, length_push, map_push}
 use Rattle.models.specs.declared.facts.Facts.{Facts}
@@ -106,7 +106,7 @@ closed_files was len e full buffer labels rows holds =
         sized = subst (λ n. (1 ≤ n) × (n ≤ 4096)) (sym all) holds.sized;
         wide = holds.wide;
         each = omega arith;
-        rising = subst (λ n. All (RisingRow n) rows) (sym all) holds.rising;
+        rising = subst (λ n. AllByRecursion (RisingRow n) rows) (sym all) holds.rising;
       };
       inside = omega arith;
       short = omega arith;

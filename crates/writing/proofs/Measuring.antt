@@ -1,6 +1,6 @@
 -- The rows of a model, one state more at a time.
 use Rattle.std.proofs.Common.{◌≡◌, ℕ, ◌+◌, ◌-◌, ◌<◌, ◌≤◌, List, [], ◌∷◌, ◌++◌, length, get_or, take, drop, sym, ap, ◌∙◌, subst, zero-add, arith}
-use Rattle.std.specs.List.{AllByRecursion as All}
+use Rattle.std.specs.List.{AllByRecursion}
 use Rattle.std.proofs.lemmas.List.FromFn.{length-map-range_with_len, get_or-map-range_with_len}
 use Rattle.std.proofs.ByRecursion.{All-push}
 use Rattle.std.proofs.lemmas.List.{append-nil, length-append, take_all, take_at, take_more}
@@ -47,7 +47,7 @@ front_row before table row n e many = ap (take n) e ∙ take_at row (drop (0 + l
 pub record RowsMeasured (M : Kripke) (space count len : ℕ) : Type 0 where
   pub labels : List Facts
   pub are : Labels M labels
-  pub rising : All (RisingRow M.frame.size) (take count (rows_of M))
+  pub rising : AllByRecursion (RisingRow M.frame.size) (take count (rows_of M))
   pub long : len ≡ length (file_of labels (take count (rows_of M)))
   pub fits : len ≤ space
 
@@ -61,7 +61,7 @@ measured_more M space count len wide h old rises e left =
     record {
       labels = old.labels;
       are = old.are;
-      rising = subst (All (RisingRow M.frame.size)) (sym (rows_next M count h)) (All-push (RisingRow M.frame.size) (take count (rows_of M)) (M.frame.row count) old.rising rises);
+      rising = subst (AllByRecursion (RisingRow M.frame.size)) (sym (rows_next M count h)) (All-push (RisingRow M.frame.size) (take count (rows_of M)) (M.frame.row count) old.rising rises);
       long = omega (arith, file_longer M old.labels count h);
       fits = omega arith;
     }
@@ -81,7 +81,7 @@ row_refused_lem M space count len NoSpace sized h old r =
       labels = old.labels;
       are = old.are;
       upto = count + 1;
-      rising = subst (All (RisingRow M.frame.size)) (sym (rows_next M count h)) (All-push (RisingRow M.frame.size) (take count (rows_of M)) (M.frame.row count) old.rising r.0);
+      rising = subst (AllByRecursion (RisingRow M.frame.size)) (sym (rows_next M count h)) (All-push (RisingRow M.frame.size) (take count (rows_of M)) (M.frame.row count) old.rising r.0);
       over = omega (arith, r.1, file_longer M old.labels count h);
     }
 row_refused_lem M space count len AllGiven sized h old r = absurd r
@@ -98,7 +98,7 @@ measured_all M space count len sized all old =
       sized = sized;
       labels = old.labels;
       are = old.are;
-      rising = subst (All (RisingRow M.frame.size)) full old.rising;
+      rising = subst (AllByRecursion (RisingRow M.frame.size)) full old.rising;
       long = old.long ∙ ap (λ rs. length (file_of old.labels rs)) full;
       fits = old.fits;
     }

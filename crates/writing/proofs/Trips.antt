@@ -1,6 +1,6 @@
 -- There and back: proofs.
 use Rattle.std.proofs.Common.{◌≡◌, ℕ, ◌<◌, ◌≤◌, false, ltb, List, [], map, length, get_or, take, Ok, Err, Result, sym, refl, ap, ◌∙◌, subst, ⊎_elim, zero-add, arith, MatchResult}
-use Rattle.std.specs.List.{AllByRecursion as All}
+use Rattle.std.specs.List.{AllByRecursion}
 use Rattle.std.proofs.lemmas.List.FromFn.{get_or-map-range_with_len, length-map-range_with_len}
 use Rattle.std.proofs.ByRecursion.{All-get_or}
 use Rattle.std.proofs.lemmas.List.{ext_get_or, get_or-map, get_or-take, length-take, length-take-le, take_all, take-take}
@@ -136,7 +136,7 @@ not_short M space labels are fits short =
     omega (arith, file_upto labels (rows_of M) short.upto)
 
 -- all rows rise, so none is bad
-not_bad : (M : Kripke) (space : ℕ) → All (RisingRow M.frame.size) (rows_of M) → RowBad M space → ⊥
+not_bad : (M : Kripke) (space : ℕ) → AllByRecursion (RisingRow M.frame.size) (rows_of M) → RowBad M space → ⊥
 not_bad M space rising bad =
     let state = bad.state in
     bad.falls (subst (RisingRow M.frame.size) (get_d_rows M bad.upto state) (All-get_or (RisingRow M.frame.size) (rows_of M) bad.upto [] (omega (arith, length_rows M)) rising))
@@ -191,7 +191,7 @@ not_refused M before after len NoSpace saved fault =
 not_refused M before after len AllGiven saved fault = fault
 not_refused M before after len Missing saved fault = fault
 not_refused M before after len BadRow saved fault =
-    not_bad M (space_of before) (subst (λ n. All (RisingRow n) (rows_of M)) saved.are.many saved.filed.valid.rising) fault
+    not_bad M (space_of before) (subst (λ n. AllByRecursion (RisingRow n) (rows_of M)) saved.are.many saved.filed.valid.rising) fault
 
 pub one_saving : OneSaving
 one_saving M buffer first second (Ok p) (Ok q) a b =

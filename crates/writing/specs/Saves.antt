@@ -1,6 +1,6 @@
 -- What save answers and leaves: the file of a whole model.
 use Rattle.std.specs.Prelude.{◌≡◌, ℕ, ◌<◌, ◌≤◌, min, List, map, length, take, Result, MatchResult, slice_index_or}
-use Rattle.std.specs.List.{range_with_len, AllByRecursion as All}
+use Rattle.std.specs.List.{range_with_len, AllByRecursion}
 use Rattle.kripke.specs.Models.{Kripke, words_at}
 use Rattle.kripke.specs.Words.{SameWords}
 use Rattle.models.specs.Facts.{fact_words}
@@ -18,7 +18,7 @@ rows_of M = map M.frame.row (range_with_len 0 M.frame.size)
 -- the labels of the first states: each has just the words that hold there
 pub record Labelled (M : Kripke) (count : ℕ) (labels : List Facts) : Type 0 where
   pub many : length labels ≡ count
-  pub wide : All Wide labels
+  pub wide : AllByRecursion Wide labels
   pub says : (s : ℕ) → s < count → SameWords (fact_words (slice_index_or labels s (record { bits = 0 }))) (words_at M s)
 
 -- those of all states
@@ -35,7 +35,7 @@ pub record TooShort (M : Kripke) (space : ℕ) : Type 0 where
   pub labels : List Facts
   pub are : Labels M labels
   pub upto : ℕ
-  pub rising : All (RisingRow M.frame.size) (take upto (rows_of M))
+  pub rising : AllByRecursion (RisingRow M.frame.size) (take upto (rows_of M))
   pub over : space < length (file_of labels (take upto (rows_of M)))
 
 -- there is space for all labels and the first rows, these rows rise, and the next does not
@@ -45,7 +45,7 @@ pub record RowBad (M : Kripke) (space : ℕ) : Type 0 where
   pub are : Labels M labels
   pub upto : ℕ
   pub state : upto < M.frame.size
-  pub rising : All (RisingRow M.frame.size) (take upto (rows_of M))
+  pub rising : AllByRecursion (RisingRow M.frame.size) (take upto (rows_of M))
   pub fits : length (file_of labels (take upto (rows_of M))) ≤ space
   pub falls : RisingRow M.frame.size (M.frame.row upto) → ⊥
 
@@ -74,6 +74,6 @@ pub record Measured (M : Kripke) (space len : ℕ) : Type 0 where
   pub sized : Sized M.frame.size
   pub labels : List Facts
   pub are : Labels M labels
-  pub rising : All (RisingRow M.frame.size) (rows_of M)
+  pub rising : AllByRecursion (RisingRow M.frame.size) (rows_of M)
   pub long : len ≡ length (file_of labels (rows_of M))
   pub fits : len ≤ space

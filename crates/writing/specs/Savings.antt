@@ -1,6 +1,6 @@
 -- What the parts of save answer.
 use Rattle.std.specs.Prelude.{◌≡◌, ℕ, ◌+◌, ◌<◌, ◌≤◌, List, [], length, take, Result, MatchResult}
-use Rattle.std.specs.List.{flat_map, AllByRecursion as All}
+use Rattle.std.specs.List.{flat_map, AllByRecursion}
 use Rattle.kripke.specs.Models.{Kripke}
 use Rattle.models.specs.declared.facts.Facts.{Facts}
 use Rattle.codec.specs.Numbers.{codes, counted}
@@ -47,7 +47,7 @@ pub record SetsGiven (M : Kripke) (before after : List ℕ) (was : Sets) (count 
 
 -- the rows of the model rise, and behind what is written the space holds them
 pub record RowsFit (M : Kripke) (buffer : List ℕ) (w : Rows) : Type 0 where
-  pub rising : All (RisingRow M.frame.size) (rows_of M)
+  pub rising : AllByRecursion (RisingRow M.frame.size) (rows_of M)
   pub states : w.states ≡ M.frame.size
   pub none : w.given ≡ 0
   pub fits : w.len + length (codes (flat_map counted (rows_of M))) ≤ space_of buffer

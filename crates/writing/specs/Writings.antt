@@ -1,6 +1,6 @@
 -- What a writing has written, and what each of its calls answers.
 use Rattle.std.specs.Prelude.{◌≡◌, ℕ, ◌+◌, ◌<◌, ◌≤◌, List, ◌∷◌, length, take}
-use Rattle.std.specs.List.{AllByRecursion as All}
+use Rattle.std.specs.List.{AllByRecursion}
 use Rattle.models.specs.declared.facts.Facts.{Facts}
 use Rattle.codec.specs.Numbers.{code, codes, counted}
 use Rattle.codec.specs.Pieces.{placed}
@@ -25,7 +25,7 @@ pub record SetsHold (buffer : List ℕ) (w : Sets) (labels : List Facts) : Type 
   pub sized : Sized w.states
   pub count : w.given ≡ length labels
   pub few : w.given ≤ w.states
-  pub wide : All Wide labels
+  pub wide : AllByRecursion Wide labels
   pub inside : w.len ≤ length buffer
   pub short : w.len ≤ longest
   pub text : take w.len buffer ≡ codes (w.states ∷ bits_of labels)
@@ -36,8 +36,8 @@ pub record RowsHold (buffer : List ℕ) (w : Rows) (labels : List Facts) (rows :
   pub all : length labels ≡ w.states
   pub count : w.given ≡ length rows
   pub few : w.given ≤ w.states
-  pub wide : All Wide labels
-  pub rising : All (RisingRow w.states) rows
+  pub wide : AllByRecursion Wide labels
+  pub rising : AllByRecursion (RisingRow w.states) rows
   pub inside : w.len ≤ length buffer
   pub short : w.len ≤ longest
   pub text : take w.len buffer ≡ file_of labels rows

@@ -1,5 +1,5 @@
 use Rattle.std.proofs.Common.{◌≡◌, ◌^◌, ◌<◌, ◌≤◌, [], length, get_or, set, ◌∙◌, arith, rules}
-use Rattle.std.specs.List.{AllByRecursion as All}
+use Rattle.std.specs.List.{AllByRecursion}
 use Rattle.std.proofs.ByRecursion.{All-get_or}
 use Rattle.std.proofs.lemmas.List.{length-set}
 use Rattle.modelfile.proofs.Filling.{offsets_over, row-held, row_stands, rows_all, rows_start, rows_step}
@@ -22,7 +22,7 @@ fill_row-next-requires c =
       next = _;
       stands = row_stands _ _ _ _ _ _ _ _ _ _ filled more;
       held = omega (arith, row-held _ _ _ _ _ _ _ _ _ _ filled more);
-      short = All-get_or (All (λ t. t < 4096)) rows c.loop-state.state [] more c.requires.short;
+      short = All-get_or (AllByRecursion (λ t. t < 4096)) rows c.loop-state.state [] more c.requires.short;
     }
 
 pub overflow_cast-offsets : goal.overflow_cast-offsets
