@@ -1,4 +1,6 @@
 //! Puts a formula to a model file: in which states is it true?
+#![tactic(auto)]
+
 ghost use Rattle.std.specs.Prelude.{◌≡◌, ℕ, ◌<◌, ◌↔◌, Some, decimal};
 ghost use Rattle.ask.specs.Words.{Reads};
 

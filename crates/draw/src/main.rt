@@ -1,4 +1,6 @@
 //! Draws a model file, or its reduced model, as a graph for Graphviz, with a colour for each class.
+#![tactic(auto)]
+
 use console::{Tables, arguments, refuse, wants_help};
 use intake::{MOST_STATES, take_into};
 use merger::analysis::Analysis;

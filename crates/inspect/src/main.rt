@@ -1,4 +1,6 @@
 //! Says what is in a model file, or where it is wrong.
+#![tactic(auto)]
+
 use console::{Tables, no_arguments, print_fault, read_file, wants_help};
 use modelfile::reading::{Loaded, load};
 use models::facts::Facts;

@@ -1,4 +1,6 @@
 //! What the programs that merge share: the model file on standard input, taken into an analysis.
+#![tactic(auto)]
+
 use components::Walk;
 use console::{Tables, print_fault, read_file};
 use exchange::taking::take;

@@ -1,4 +1,6 @@
 //! Merges the states of a model file that no formula tells apart, and lists each state with its class.
+#![tactic(auto)]
+
 use anyhow::anyhow;
 use console::{no_arguments, wants_help};
 use exchange::listing::listing;

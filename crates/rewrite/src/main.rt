@@ -1,4 +1,6 @@
 //! Loads a model file and writes it again: an accepted file comes out as its own bytes.
+#![tactic(auto)]
+
 use anyhow::anyhow;
 use console::{Tables, no_arguments, print_fault, read_file, wants_help};
 use modelfile::LONGEST;

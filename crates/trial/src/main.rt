@@ -1,4 +1,6 @@
 //! Holds the merger and the check to a second engine that is written from the definitions alone.
+#![tactic(auto)]
+
 use crate::compare::Tally;
 use second::tables::{Dice, any_model, small_model, small_models};
 use std::alloc::{AllocError, Global};

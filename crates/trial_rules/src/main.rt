@@ -1,4 +1,6 @@
 //! Holds open, check, load and save to the rules of what is refused, as they were read by hand.
+#![tactic(auto)]
+
 use crate::cases::Cases;
 use crate::sweep::{all_files, all_steps, all_tables};
 use std::{env, io};

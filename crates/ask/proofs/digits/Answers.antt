@@ -1,4 +1,4 @@
-use Rattle.std.proofs.Common.{ℕ, ◌+◌, ◌-◌, ◌*◌, length, get_or, ⊎_elim, arith, ltb-false, ltb-true}
+use Rattle.std.proofs.Common.{ℕ, ◌+◌, ◌-◌, ◌*◌, get_or, ⊎_elim, arith, ltb-false, ltb-true}
 use Rattle.ask.proofs.Numerals.{one_figure, two_figures, read_some, read_none}
 use Rattle.ask.proofs.digits.Goals as goal
 
