@@ -3,7 +3,7 @@
 
 ghost use Rattle.std.specs.Prelude.{◌≡◌, ℕ, ◌<◌, ◌≤◌, length, MatchResult, slice_index};
 ghost use Rattle.sets.specs.Sets.{bit};
-ghost use Rattle.checker.specs.declared.steps.Refused.TheVariants.{Model as of-model, Steps as of_steps};
+ghost use Rattle.checker.specs.declared.steps.Refused.TheVariants.{Model as of_model, Steps as of_steps};
 ghost use Rattle.checker.specs.Refusals.{Refuses, Checked, cause, place, move_number};
 ghost use Rattle.checker.specs.Claims.{OneFormula, ReadableFormulas, OneRefusal};
 
@@ -21,7 +21,7 @@ pub mod steps;
 mod truth;
 
 impl From<Gap> for Refused {
-    ghost from_gives = { λ gap r. r ≡ of-model gap };
+    ghost from_gives = { λ gap r. r ≡ of_model gap };
 
     fn from(gap: Gap) -> Refused {
         Refused::Model(gap)

@@ -67,7 +67,7 @@ pub fn take(
     walks: &mut [Walk],
     states: &mut [u16],
 ) -> Result<Opened, TakeFault>
-    ensures { TakeAnswer file.now (record { labels = labels.entry.now; offsets = offsets.old; targets = targets.old }) (record { labels = labels.exit.now; offsets = offsets.new; targets = targets.new }) analysis.old analysis.new walks.old walks.new states.old states.new result }
+    ensures { TakeAnswer file.now (record { labels = labels.old; offsets = offsets.old; targets = targets.old }) (record { labels = labels.new; offsets = offsets.new; targets = targets.new }) analysis.old analysis.new walks.old walks.new states.old states.new result }
 {
     let Loaded {
         states: count,

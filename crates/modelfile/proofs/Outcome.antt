@@ -9,7 +9,7 @@ use Rattle.codec.specs.Reading.{Stands}
 use Rattle.codec.proofs.Joins.{joined-append}
 use Rattle.codec.proofs.Standing.{same_front, stands, one_stands, one_wrong, not_wrong}
 use Rattle.modelfile.specs.Files.{bits_of, numbers, RisingRow, Wide, targets_of}
-use Rattle.modelfile.specs.FirstFault.{Spot, at_size, at_label, at-degree, at_target, before, Right, RightLabels, RightRows, RightTargets, Comes, Over, InRange, Rises, HasRoom, Number, Fails, Reached, FaultAtSpot, Denotes, OneOutcome}
+use Rattle.modelfile.specs.FirstFault.{Spot, at_size, at_label, at_degree, at_target, before, Right, RightLabels, RightRows, RightTargets, Comes, Over, InRange, Rises, HasRoom, Number, Fails, Reached, FaultAtSpot, Denotes, OneOutcome}
 use Rattle.modelfile.specs.declared.faults.FileFault.{FileFault}
 use Rattle.modelfile.specs.declared.faults.FileFault.TheVariants.{InNumber, OutOfRange, NotRising, TableShort, LeftOver, TooLong}
 use Rattle.modelfile.specs.declared.scan.Room.{Room}
@@ -19,15 +19,15 @@ use Rattle.modelfile.proofs.Walking.{place_is, targets_push}
 -- a spot behind the last label, or behind the last target of a row, is the one where a degree comes next
 abbrev settled : Spot → Spot
 settled at_size = at_size
-settled (at_label n labels) = cond (ltb (length labels) n) (at_label n labels) (at-degree labels [])
-settled (at-degree labels rows) = at-degree labels rows
-settled (at_target labels rows degree ts) = cond (ltb (length ts) degree) (at_target labels rows degree ts) (at-degree labels (rows ++ (ts ∷ [])))
+settled (at_label n labels) = cond (ltb (length labels) n) (at_label n labels) (at_degree labels [])
+settled (at_degree labels rows) = at_degree labels rows
+settled (at_target labels rows degree ts) = cond (ltb (length ts) degree) (at_target labels rows degree ts) (at_degree labels (rows ++ (ts ∷ [])))
 
 -- one number on
 abbrev raw : Spot → ℕ → Spot
 raw at_size n = at_label n []
 raw (at_label n labels) x = at_label n (labels ++ (record { bits = x } ∷ []))
-raw (at-degree labels rows) d = at_target labels rows d []
+raw (at_degree labels rows) d = at_target labels rows d []
 raw (at_target labels rows d ts) x = at_target labels rows d (ts ++ (x ∷ []))
 
 abbrev walk : Spot → List ℕ → Spot
@@ -38,32 +38,32 @@ walk s (n ∷ ns) = walk (settled (raw s n)) ns
 abbrev Open : Spot → Type 0
 Open at_size = Unit {0}
 Open (at_label n labels) = length labels < n
-Open (at-degree labels rows) = Unit {0}
+Open (at_degree labels rows) = Unit {0}
 Open (at_target labels rows degree ts) = length ts < degree
 
 settled_open : (s : Spot) → Open s → settled s ≡ s
 settled_open at_size o = refl
 settled_open (at_label n labels) o = cond-true (ltb (length labels) n) _ _ (lt-ltb (length labels) n o)
-settled_open (at-degree labels rows) o = refl
+settled_open (at_degree labels rows) o = refl
 settled_open (at_target labels rows d ts) o = cond-true (ltb (length ts) d) _ _ (lt-ltb (length ts) d o)
 
-label_full : (n : ℕ) (labels : List Facts) → n ≤ length labels → settled (at_label n labels) ≡ at-degree labels []
+label_full : (n : ℕ) (labels : List Facts) → n ≤ length labels → settled (at_label n labels) ≡ at_degree labels []
 label_full n labels h = cond-false (ltb (length labels) n) _ _ (le-ltb (length labels) n h)
 
-row_full : (labels : List Facts) (rows : List (List ℕ)) (d : ℕ) (ts : List ℕ) → d ≤ length ts → settled (at_target labels rows d ts) ≡ at-degree labels (rows ++ (ts ∷ []))
+row_full : (labels : List Facts) (rows : List (List ℕ)) (d : ℕ) (ts : List ℕ) → d ≤ length ts → settled (at_target labels rows d ts) ≡ at_degree labels (rows ++ (ts ∷ []))
 row_full labels rows d ts h = cond-false (ltb (length ts) d) _ _ (le-ltb (length ts) d h)
 
 -- a settled spot, by cases: it is the same spot and open, or the one behind it
-label_cases : (n : ℕ) (labels : List Facts) → ((length labels < n) × (settled (at_label n labels) ≡ at_label n labels)) ⊎ ((n ≤ length labels) × (settled (at_label n labels) ≡ at-degree labels []))
+label_cases : (n : ℕ) (labels : List Facts) → ((length labels < n) × (settled (at_label n labels) ≡ at_label n labels)) ⊎ ((n ≤ length labels) × (settled (at_label n labels) ≡ at_degree labels []))
 label_cases n labels = ⊎_elim (λ l. inl (l, settled_open (at_label n labels) l)) (λ l. inr (l, label_full n labels l)) (cases_lt (length labels) n)
 
-target_cases : (labels : List Facts) (rows : List (List ℕ)) (d : ℕ) (ts : List ℕ) → ((length ts < d) × (settled (at_target labels rows d ts) ≡ at_target labels rows d ts)) ⊎ ((d ≤ length ts) × (settled (at_target labels rows d ts) ≡ at-degree labels (rows ++ (ts ∷ []))))
+target_cases : (labels : List Facts) (rows : List (List ℕ)) (d : ℕ) (ts : List ℕ) → ((length ts < d) × (settled (at_target labels rows d ts) ≡ at_target labels rows d ts)) ⊎ ((d ≤ length ts) × (settled (at_target labels rows d ts) ≡ at_degree labels (rows ++ (ts ∷ []))))
 target_cases labels rows d ts = ⊎_elim (λ l. inl (l, settled_open (at_target labels rows d ts) l)) (λ l. inr (l, row_full labels rows d ts l)) (cases_lt (length ts) d)
 
 open_settled : (s : Spot) → Open (settled s)
 open_settled at_size = tt
 open_settled (at_label n labels) = ⊎_elim (λ h. subst Open (sym h.1) h.0) (λ h. subst Open (sym h.1) tt) (label_cases n labels)
-open_settled (at-degree labels rows) = tt
+open_settled (at_degree labels rows) = tt
 open_settled (at_target labels rows d ts) = ⊎_elim (λ h. subst Open (sym h.1) h.0) (λ h. subst Open (sym h.1) tt) (target_cases labels rows d ts)
 
 walk_append : (s : Spot) (ms ns : List ℕ) → walk s (ms ++ ns) ≡ walk (walk s ms) ns
@@ -86,15 +86,15 @@ walk_targets labels rows d ts (x ∷ more) h =
     ∙ (walk_targets labels rows d (ts ++ (x ∷ [])) more (omega arith)
     ∙ ap (λ us. settled (at_target labels rows d us)) (append_assoc ts (x ∷ []) more))
 
-walk_rows : (labels : List Facts) (rows more : List (List ℕ)) → walk (at-degree labels rows) (flat_map counted more) ≡ at-degree labels (rows ++ more)
-walk_rows labels rows [] = ap (at-degree labels) (sym (append-nil rows))
+walk_rows : (labels : List Facts) (rows more : List (List ℕ)) → walk (at_degree labels rows) (flat_map counted more) ≡ at_degree labels (rows ++ more)
+walk_rows labels rows [] = ap (at_degree labels) (sym (append-nil rows))
 walk_rows labels rows (row ∷ more) =
-    walk_append (at-degree labels rows) (counted row) (flat_map counted more)
+    walk_append (at_degree labels rows) (counted row) (flat_map counted more)
     ∙ (ap (λ s. walk s (flat_map counted more)) (walk_targets labels rows (length row) [] row (omega arith) ∙ row_full labels rows (length row) row (omega arith))
     ∙ (walk_rows labels (rows ++ (row ∷ [])) more
-    ∙ ap (at-degree labels) (append_assoc rows (row ∷ []) more)))
+    ∙ ap (at_degree labels) (append_assoc rows (row ∷ []) more)))
 
-walk_numbers : (labels : List Facts) (rows : List (List ℕ)) → walk at_size (numbers labels rows) ≡ at-degree labels rows
+walk_numbers : (labels : List Facts) (rows : List (List ℕ)) → walk at_size (numbers labels rows) ≡ at_degree labels rows
 walk_numbers labels rows =
     walk_append at_size (length labels ∷ bits_of labels) (flat_map counted rows)
     ∙ (ap (λ s. walk s (flat_map counted rows)) (walk_labels (length labels) [] labels (omega arith) ∙ label_full (length labels) labels (omega arith))
@@ -104,7 +104,7 @@ walk_numbers labels rows =
 arrives : (t : Room) (s : Spot) → Right t s → walk at_size (before s) ≡ settled s
 arrives t at_size right = refl
 arrives t (at_label n labels) right = walk_labels n [] labels (omega (arith, right.few))
-arrives t (at-degree labels rows) right = walk_numbers labels rows
+arrives t (at_degree labels rows) right = walk_numbers labels rows
 arrives t (at_target labels rows d ts) right =
     walk_append at_size (numbers labels rows) (d ∷ ts)
     ∙ (ap (λ s. walk s (d ∷ ts)) (walk_numbers labels rows) ∙ walk_targets labels rows d [] ts (omega (arith, right.few)))
@@ -164,7 +164,7 @@ row_back t labels rows ts d e ranged right =
       held = omega arith;
     }
 
-degree_back : (t : Room) (labels : List Facts) (rows : List (List ℕ)) (d : ℕ) → RightTargets t labels rows d [] → RightRows t labels rows × Passes t (at-degree labels rows) d
+degree_back : (t : Room) (labels : List Facts) (rows : List (List ℕ)) (d : ℕ) → RightTargets t labels rows d [] → RightRows t labels rows × Passes t (at_degree labels rows) d
 degree_back t labels rows d right =
     let ranged = right.ranged in
     let few = right.complete.labelled.sized.1 in
@@ -189,7 +189,7 @@ back t (at_label n labels) x o right =
     let e : length (labels ++ (record { bits = x } ∷ [])) ≡ n = omega (arith, h.0) in
     label_back t n labels x o (subst (λ m. RightLabels t m (labels ++ (record { bits = x } ∷ []))) e r.labelled))
     (label_cases n (labels ++ (record { bits = x } ∷ [])))
-back t (at-degree labels rows) d o right =
+back t (at_degree labels rows) d o right =
     ⊎_elim
     (λ h. degree_back t labels rows d (subst (Right t) h.1 right))
     (λ h. degree_back t labels rows d (row_back t labels rows [] d (omega (arith, h.0)) (omega (arith, h.0)) (subst (Right t) h.1 right)))
@@ -285,19 +285,19 @@ module _ (t : Room) (file : List ℕ) where
   comes-open : (s : Spot) → Comes s → Open s
   comes-open at_size h = tt
   comes-open (at_label n labels) h = h
-  comes-open (at-degree labels rows) h = tt
+  comes-open (at_degree labels rows) h = tt
   comes-open (at_target labels rows d ts) h = h
 
   over-open : (s : Spot) → Over s → Open s
   over-open at_size h = absurd h
   over-open (at_label n labels) h = absurd h
-  over-open (at-degree labels rows) h = tt
+  over-open (at_degree labels rows) h = tt
   over-open (at_target labels rows d ts) h = absurd h
 
   not-over : (s : Spot) → Comes s → Over s → ⊥
   not-over at_size h o = o
   not-over (at_label n labels) h o = o
-  not-over (at-degree labels rows) h o = omega arith
+  not-over (at_degree labels rows) h o = omega arith
   not-over (at_target labels rows d ts) h o = o
 
   -- where nothing is to come, reading stops
@@ -363,7 +363,7 @@ module _ (t : Room) (file : List ℕ) where
   none-fails s TooLong over h = h
 
   -- an accepted file is read to its end
-  ended : (labels : List Facts) (rows : List (List ℕ)) → Denotes t file labels rows → Reached t file (at-degree labels rows) (length file)
+  ended : (labels : List Facts) (rows : List (List ℕ)) → Denotes t file labels rows → Reached t file (at_degree labels rows) (length file)
   ended labels rows denotes =
       let each = denotes.valid.each in
       record {
@@ -385,7 +385,7 @@ module _ (t : Room) (file : List ℕ) where
   pub one_outcome : OneOutcome t file
   one_outcome = record {
     one_model = λ labels more rows others a b.
-        let same = one_spot (at-degree labels rows) (at-degree more others) (length file) (length file) (ended labels rows a) (over-halts (at-degree labels rows) (length file) a.valid.each) (ended more others b) (over-halts (at-degree more others) (length file) b.valid.each) in
+        let same = one_spot (at_degree labels rows) (at_degree more others) (length file) (length file) (ended labels rows a) (over-halts (at_degree labels rows) (length file) a.valid.each) (ended more others b) (over-halts (at_degree more others) (length file) b.valid.each) in
         let e = same.0 in
         ((cc), (cc));
     one_fault = λ d e a b. ⊎_elim
@@ -395,7 +395,7 @@ module _ (t : Room) (file : List ℕ) where
     not_both = λ labels rows e a b. ⊎_elim
         (λ q. let short = a.short in omega (arith, q.0))
         (λ q.
-        let same = one_spot q.spot (at-degree labels rows) q.at (length file) q.reached (fails-halts q.spot q.at e q.fails) (ended labels rows a) (over-halts (at-degree labels rows) (length file) a.valid.each) in
-        none-fails (at-degree labels rows) e a.valid.each (subst (λ s. Fails t file s (length file) e) same.0 (subst (λ i. Fails t file q.spot i e) same.1 q.fails)))
+        let same = one_spot q.spot (at_degree labels rows) q.at (length file) q.reached (fails-halts q.spot q.at e q.fails) (ended labels rows a) (over-halts (at_degree labels rows) (length file) a.valid.each) in
+        none-fails (at_degree labels rows) e a.valid.each (subst (λ s. Fails t file s (length file) e) same.0 (subst (λ i. Fails t file q.spot i e) same.1 q.fails)))
         b;
   }

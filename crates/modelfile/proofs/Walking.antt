@@ -7,7 +7,7 @@ use Rattle.models.specs.declared.facts.Facts.{Facts}
 use Rattle.codec.specs.Numbers.{code, codes, counted}
 use Rattle.codec.specs.Reading.{Stands}
 use Rattle.modelfile.specs.Files.{bits_of, numbers, longest, Sized, RisingRow, Wide, targets_of}
-use Rattle.modelfile.specs.FirstFault.{Spot, at_size, at_label, at-degree, at_target, before, Right, RightLabels, HoldsStates, Reached, Fails, FirstFault, Denotes}
+use Rattle.modelfile.specs.FirstFault.{Spot, at_size, at_label, at_degree, at_target, before, Right, RightLabels, HoldsStates, Reached, Fails, FirstFault, Denotes}
 use Rattle.modelfile.specs.Walks.{LabelsRead, RowsRead, TargetsRead, Lowest}
 use Rattle.modelfile.specs.declared.faults.FileFault.{FileFault}
 use Rattle.modelfile.specs.declared.scan.Room.{Room}
@@ -86,8 +86,8 @@ module _ (t : Room) (file : List ℕ) where
         sized = omega arith;
         many = sym rows;
         counted = sym targets;
-        reached = subst (Reached t file (at-degree read.labels [])) (sym place)
-            (turned (at_label n read.labels) (at-degree read.labels []) at read.reached
+        reached = subst (Reached t file (at_degree read.labels [])) (sym place)
+            (turned (at_label n read.labels) (at_degree read.labels []) at read.reached
             (record { labelled = right; few = omega arith; rising = tt; held = omega arith })
             (ap (λ m. m ∷ bits_of read.labels) (sym many) ∙ sym (append-nil (length read.labels ∷ bits_of read.labels))));
       }
@@ -111,7 +111,7 @@ module _ (t : Room) (file : List ℕ) where
         given = sym given;
         lowest = subst (Lowest []) (sym low) lowest-none;
         reached = subst (Reached t file (at_target read.labels read.rows r.degree [])) (sym place)
-            (onward (at-degree read.labels read.rows) (at_target read.labels read.rows r.degree []) w.at degree next read.reached there
+            (onward (at_degree read.labels read.rows) (at_target read.labels read.rows r.degree []) w.at degree next read.reached there
             (record { complete = right; next = omega arith; ranged = omega arith; few = omega arith; rising = record { rises = rising_none; below = tt }; held = omega arith })
             (ap (λ d. numbers read.labels read.rows ++ (d ∷ [])) (sym deg)));
       }
@@ -173,8 +173,8 @@ module _ (t : Room) (file : List ℕ) where
         sized = omega arith;
         many = omega arith;
         counted = omega arith;
-        reached = subst (Reached t file (at-degree read.labels (read.rows ++ (read.targets ∷ [])))) (sym place)
-            (turned (at_target read.labels read.rows r.degree read.targets) (at-degree read.labels (read.rows ++ (read.targets ∷ []))) r.at read.reached
+        reached = subst (Reached t file (at_degree read.labels (read.rows ++ (read.targets ∷ [])))) (sym place)
+            (turned (at_target read.labels read.rows r.degree read.targets) (at_degree read.labels (read.rows ++ (read.targets ∷ []))) r.at read.reached
             (record {
               labelled = right.complete.labelled;
               few = omega arith;

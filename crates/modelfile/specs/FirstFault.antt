@@ -16,14 +16,14 @@ use Rattle.modelfile.specs.declared.scan.Room.{Room}
 pub data Spot : Type 0 where
   at_size : Spot
   at_label : ℕ → List Facts → Spot
-  at-degree : List Facts → List (List ℕ) → Spot
+  at_degree : List Facts → List (List ℕ) → Spot
   at_target : List Facts → List (List ℕ) → ℕ → List ℕ → Spot
 
 -- the numbers before it
 abbrev pub before : Spot → List ℕ
 before at_size = []
 before (at_label n labels) = n ∷ bits_of labels
-before (at-degree labels rows) = numbers labels rows
+before (at_degree labels rows) = numbers labels rows
 before (at_target labels rows degree targets) = numbers labels rows ++ (degree ∷ targets)
 
 -- the tables have room for n labels and one offset more
@@ -57,42 +57,42 @@ pub record RightTargets (t : Room) (labels : List Facts) (rows : List (List ℕ)
 abbrev pub Right : Room → Spot → Type 0
 Right t at_size = Unit {0}
 Right t (at_label n labels) = RightLabels t n labels
-Right t (at-degree labels rows) = RightRows t labels rows
+Right t (at_degree labels rows) = RightRows t labels rows
 Right t (at_target labels rows degree targets) = RightTargets t labels rows degree targets
 
 -- a number is still to come here
 abbrev pub Comes : Spot → Type 0
 Comes at_size = Unit {0}
 Comes (at_label n labels) = length labels < n
-Comes (at-degree labels rows) = length rows < length labels
+Comes (at_degree labels rows) = length rows < length labels
 Comes (at_target labels rows degree targets) = length targets < degree
 
 -- nothing is to come: all rows are read
 abbrev pub Over : Spot → Type 0
 Over at_size = ⊥
 Over (at_label n labels) = ⊥
-Over (at-degree labels rows) = length rows ≡ length labels
+Over (at_degree labels rows) = length rows ≡ length labels
 Over (at_target labels rows degree targets) = ⊥
 
 -- cause 3 does not apply to the next number
 abbrev pub InRange : Spot → ℕ → Type 0
 InRange at_size n = Sized n
 InRange (at_label n labels) facts = Unit {0}
-InRange (at-degree labels rows) degree = degree ≤ length labels
+InRange (at_degree labels rows) degree = degree ≤ length labels
 InRange (at_target labels rows degree targets) target = target < length labels
 
 -- cause 4 does not
 abbrev pub Rises : Spot → ℕ → Type 0
 Rises at_size n = Unit {0}
 Rises (at_label n labels) facts = Unit {0}
-Rises (at-degree labels rows) degree = Unit {0}
+Rises (at_degree labels rows) degree = Unit {0}
 Rises (at_target labels rows degree targets) target = Rising (targets ++ (target ∷ []))
 
 -- cause 5 does not
 abbrev pub HasRoom : Room → Spot → ℕ → Type 0
 HasRoom t at_size n = HoldsStates t n
 HasRoom t (at_label n labels) facts = Unit {0}
-HasRoom t (at-degree labels rows) degree = Unit {0}
+HasRoom t (at_degree labels rows) degree = Unit {0}
 HasRoom t (at_target labels rows degree targets) target = length (targets_of rows) + length targets < t.targets
 
 -- a number of which P holds stands at the place

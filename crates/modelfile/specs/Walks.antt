@@ -4,7 +4,7 @@ use Rattle.kripke.specs.Reduced.{Rising}
 use Rattle.models.specs.declared.facts.Facts.{Facts}
 use Rattle.codec.specs.Numbers.{codes}
 use Rattle.modelfile.specs.Files.{targets_of}
-use Rattle.modelfile.specs.FirstFault.{at_label, at-degree, at_target, Reached, Denotes}
+use Rattle.modelfile.specs.FirstFault.{at_label, at_degree, at_target, Reached, Denotes}
 use Rattle.modelfile.specs.declared.scan.Room.{Room}
 use Rattle.modelfile.specs.declared.scan.Walk.{Walk}
 use Rattle.modelfile.specs.declared.scan.OpenRow.{OpenRow}
@@ -23,7 +23,7 @@ pub record RowsRead (t : Room) (file : List ℕ) (w : Walk) : Type 0 where
   pub sized : length labels ≡ w.states
   pub many : length rows ≡ w.rows
   pub counted : length (targets_of rows) ≡ w.targets
-  pub reached : Reached t file (at-degree labels rows) w.at
+  pub reached : Reached t file (at_degree labels rows) w.at
 
 -- low is the least target that may follow
 abbrev pub Lowest : List ℕ → ℕ → Type 0

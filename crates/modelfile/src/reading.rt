@@ -22,7 +22,7 @@ pub fn load(
     offsets: &mut [u32],
     targets: &mut [u16],
 ) -> Result<Loaded, FileFault>
-    ensures { Loads file.now (record { labels = labels.entry.now; offsets = offsets.old; targets = targets.old }) (record { labels = labels.exit.now; offsets = offsets.new; targets = targets.new }) result }
+    ensures { Loads file.now (record { labels = labels.old; offsets = offsets.old; targets = targets.old }) (record { labels = labels.new; offsets = offsets.new; targets = targets.new }) result }
 {
     let room = Room {
         labels: labels.len(),

@@ -135,7 +135,7 @@ impl Cases {
                 self.faulty(bytes, cause, place);
                 Ok(())
             }
-            Err(Problem::Memory) => Err(AllocError),
+            Err(Problem::Memory(error)) => Err(error),
         }
     }
 

@@ -14,18 +14,18 @@ pub struct Room {
 #[derive(Clone, Copy)]
 pub enum Problem {
     Fault(u8, usize),
-    Memory,
+    Memory(AllocError),
 }
 
 impl From<AllocError> for Problem {
-    fn from(_error: AllocError) -> Problem {
-        Problem::Memory
+    fn from(error: AllocError) -> Problem {
+        Problem::Memory(error)
     }
 }
 
 impl<T: Drop> From<AllocFailed<T>> for Problem {
-    fn from(_refused: AllocFailed<T>) -> Problem {
-        Problem::Memory
+    fn from(failed: AllocFailed<T>) -> Problem {
+        Problem::Memory(AllocError::from(failed))
     }
 }
 

@@ -48,9 +48,9 @@ unfolding models tests
 doubled = sure (tells_every 5 (λ s. of pair_classes s ≡ of pair_classes (s + 5)) (λ s. eqb (of pair_classes s) (of pair_classes (s + 5)))
     (λ s _. tells_eq (of pair_classes s) (of pair_classes (s + 5))))
 
-polls-loops : (s : ℕ) → s < 5 → Alike polls 0 s → LOOP polls.frame (Alike polls) s ↔ (s ≡ 4)
+polls_loops : (s : ℕ) → s < 5 → Alike polls 0 s → LOOP polls.frame (Alike polls) s ↔ (s ≡ 4)
 unfolding models tests
-polls-loops = sure (tells_every 5 (λ s. Alike polls 0 s → LOOP polls.frame (Alike polls) s ↔ (s ≡ 4))
+polls_loops = sure (tells_every 5 (λ s. Alike polls 0 s → LOOP polls.frame (Alike polls) s ↔ (s ≡ 4))
     (λ s. not (related? polls 0 0 s) || beq (get_or (loops polls 0) s false) (eqb s 4))
     (λ s h. implies (draws_relation polls polls_formed 0 0 s (lit< tt) h) (equals (lists_loops polls polls_formed 0 s h) (tells_eq s 4))))
 
@@ -64,18 +64,18 @@ pub worked : Worked
 unfolding models tests
 worked = record {
   polls_file = polls_file;
-  of-polls = found polls polls_formed 5 2 2 3 (0 ∷ 0 ∷ 1 ∷ 0 ∷ 2 ∷ []) refl;
-  polls-loops = polls-loops;
-  polls-merged = sure (tells_reduces polls polls_formed 2 (of (0 ∷ 0 ∷ 1 ∷ 0 ∷ 2 ∷ [])) 3 merged (model_formed merged_listed));
+  of_polls = found polls polls_formed 5 2 2 3 (0 ∷ 0 ∷ 1 ∷ 0 ∷ 2 ∷ []) refl;
+  polls_loops = polls_loops;
+  polls_merged = sure (tells_reduces polls polls_formed 2 (of (0 ∷ 0 ∷ 1 ∷ 0 ∷ 2 ∷ [])) 3 merged (model_formed merged_listed));
   merged_file = merged_file;
-  of-chain = found chain (model_formed chain_listed) 6 4 3 6 (0 ∷ 1 ∷ 2 ∷ 3 ∷ 4 ∷ 5 ∷ []) refl;
+  of_chain = found chain (model_formed chain_listed) 6 4 3 6 (0 ∷ 1 ∷ 2 ∷ 3 ∷ 4 ∷ 5 ∷ []) refl;
   chain_together = sure (draws_relation chain (model_formed chain_listed) 1 0 3 (lit< tt) (lit< tt));
   chain_apart = never (draws_relation chain (model_formed chain_listed) 2 0 3 (lit< tt) (lit< tt));
   of_pair = of_pair;
   pair_doubled = λ s h. (of_pair.classes.same s (s + 5) (omega arith) (omega arith)).0 (doubled s h);
-  of-lone = found lone (model_formed lone_listed) 1 1 1 1 (0 ∷ []) refl;
+  of_lone = found lone (model_formed lone_listed) 1 1 1 1 (0 ∷ []) refl;
   bare_refused = bare_refused;
-  of-rested = found (rested bare) (rested_formed bare (model_formed bare_listed)) 1 1 1 1 (0 ∷ []) refl;
+  of_rested = found (rested bare) (rested_formed bare (model_formed bare_listed)) 1 1 1 1 (0 ∷ []) refl;
   stays_off = marked (globally (neg (word 0))) (λ s. s ≡ 4) (λ s. eqb s 4) (λ s. tells_eq s 4) refl;
   gets_there = λ s h. (marked (until top (word 0)) (λ _. Unit {0}) (λ _. true) (λ _. holds tt) refl s h).1 tt;
   sun_set = refl;

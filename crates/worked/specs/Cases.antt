@@ -102,19 +102,19 @@ pub record Found (M : Kripke) (K h r m : ℕ) (class : List ℕ) : Type 0 where
 
 pub record Worked : Type 0 where
   pub polls_file : Denoted (5 ∷ 0 ∷ 0 ∷ 1 ∷ 0 ∷ 0 ∷ 1 ∷ 1 ∷ 1 ∷ 2 ∷ 1 ∷ 2 ∷ 1 ∷ 2 ∷ 2 ∷ 2 ∷ 4 ∷ []) polls_listed
-  pub of-polls : Found polls 5 2 2 3 (0 ∷ 0 ∷ 1 ∷ 0 ∷ 2 ∷ [])
+  pub of_polls : Found polls 5 2 2 3 (0 ∷ 0 ∷ 1 ∷ 0 ∷ 2 ∷ [])
   -- only the loop tells 0 from 4
-  pub polls-loops : (s : ℕ) → s < 5 → Alike polls 0 s → LOOP polls.frame (Alike polls) s ↔ (s ≡ 4)
-  pub polls-merged : Reduces polls (Related polls 2) (of (0 ∷ 0 ∷ 1 ∷ 0 ∷ 2 ∷ [])) 3 merged
+  pub polls_loops : (s : ℕ) → s < 5 → Alike polls 0 s → LOOP polls.frame (Alike polls) s ↔ (s ≡ 4)
+  pub polls_merged : Reduces polls (Related polls 2) (of (0 ∷ 0 ∷ 1 ∷ 0 ∷ 2 ∷ [])) 3 merged
   pub merged_file : Denoted (3 ∷ 0 ∷ 1 ∷ 0 ∷ 1 ∷ 1 ∷ 1 ∷ 1 ∷ 2 ∷ 1 ∷ 2 ∷ []) merged_listed
-  pub of-chain : Found chain 6 4 3 6 (0 ∷ 1 ∷ 2 ∷ 3 ∷ 4 ∷ 5 ∷ [])
+  pub of_chain : Found chain 6 4 3 6 (0 ∷ 1 ∷ 2 ∷ 3 ∷ 4 ∷ 5 ∷ [])
   pub chain_together : Related chain 1 0 3
   pub chain_apart : Related chain 2 0 3 → ⊥
   pub of_pair : Found (beside polls polls) 10 2 2 3 (0 ∷ 0 ∷ 1 ∷ 0 ∷ 2 ∷ 0 ∷ 0 ∷ 1 ∷ 0 ∷ 2 ∷ [])
   pub pair_doubled : (s : ℕ) → s < 5 → Related (beside polls polls) 2 s (s + 5)
-  pub of-lone : Found lone 1 1 1 1 (0 ∷ [])
+  pub of_lone : Found lone 1 1 1 1 (0 ∷ [])
   pub bare_refused : Gaps bare.frame (EmptyRow 0) × (gap_cause (EmptyRow 0) ≡ 15)
-  pub of-rested : Found (rested bare) 1 1 1 1 (0 ∷ [])
+  pub of_rested : Found (rested bare) 1 1 1 1 (0 ∷ [])
   pub stays_off : (s : ℕ) → s < 5 → Holds polls (globally (neg (word 0))) s ↔ (s ≡ 4)
   pub gets_there : (s : ℕ) → s < 5 → Holds polls (until top (word 0)) s
   -- the altitudes -50 and -49: the first number counts how far below -1 it lies

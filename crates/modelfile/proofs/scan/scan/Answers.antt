@@ -1,7 +1,7 @@
 use Rattle.std.proofs.Common.{◌≡◌, ◌≤◌, [], ◌∷◌, length, sym, refl, ap, ◌∙◌, arith}
 use Rattle.codec.specs.Numbers.{codes}
 use Rattle.modelfile.specs.Files.{longest}
-use Rattle.modelfile.specs.FirstFault.{at-degree}
+use Rattle.modelfile.specs.FirstFault.{at_degree}
 use Rattle.modelfile.proofs.Walking.{stops, all_read, size_place}
 use Rattle.modelfile.proofs.scan.scan.Goals as goal
 
@@ -12,7 +12,7 @@ returns-then-end-file c =
     let read = end.0 in
     let sized = read.sized in
     let many = read.many in
-    stops _ _ (at-degree read.labels read.rows) c.in_ok-end.end.at _ short read.reached (omega (arith, end.1, end.2), refl, c.if-end-file.true)
+    stops _ _ (at_degree read.labels read.rows) c.in_ok-end.end.at _ short read.reached (omega (arith, end.1, end.2), refl, c.if-end-file.true)
 
 pub returns : goal.returns
 returns c =
