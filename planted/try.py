@@ -43,8 +43,11 @@ def below(crate):
 
 def copied(crate, copy):
     """Copies the sources, and what is proved already of the crate and of those below it."""
-    shutil.copy(top / "crates.txt", copy)
-    for name in below(crate):
+    lines = (top / "crates.txt").read_text().splitlines(keepends=True)
+    wanted = below(crate)
+    # a line without its crate would be refused
+    (copy / "crates.txt").write_text("".join(line for line in lines if line.split(":")[0] in wanted))
+    for name in wanted:
         if (top / "crates" / name).is_dir():
             shutil.copytree(top / "crates" / name, copy / "crates" / name, ignore=shutil.ignore_patterns("must-fail"))
 
