@@ -1,9 +1,10 @@
 -- A reduced model that is filled after the settling round.
-use Rattle.std.proofs.Common.{◌≡◌, ℕ, ◌+◌, ◌<◌, ◌≤◌, true, false, cond, ltb, ◌↔◌, List, [], length, get_or, set, Some, None, sym, ap, ◌∙◌, subst, ⊎_elim, arith}
+use Rattle.std.proofs.Common.{◌≡◌, ℕ, ◌+◌, ◌<◌, ◌≤◌, true, false, cond, ltb, ◌↔◌, List, [], length, get_or, set, Some, None, slice_get, sym, ap, ◌∙◌, subst, ⊎_elim, arith}
 use Rattle.std.proofs.lemmas.Bool.{cases_eq, cases_lt, cases_Bool, lt-ltb, ltb-true, cond-true, cond-false}
+use Rattle.std.proofs.lemmas.Option.{slice_get_within, get_or_from_slice_get}
 use Rattle.std.proofs.lemmas.List.{get_or_default, get_or-set_same, get_or-set_other, length-set}
 use Rattle.sets.specs.declared.Set.{Set}
-use Rattle.sets.specs.Sets.{In, none, members, nth_of}
+use Rattle.sets.specs.Sets.{In, none, members}
 use Rattle.sets.proofs.Members.{members_has, members_in, members_rise}
 use Rattle.kripke.specs.Models.{Kripke, nowhere, move}
 use Rattle.kripke.specs.Paths.{Move}
@@ -24,13 +25,10 @@ use Rattle.merger.proofs.Promising.{settles_stable, tabled_promise}
 use Rattle.merger.proofs.Blank.{no_words}
 use Rattle.sets.proofs.Bits.{none_in}
 
-pub nth-at : (xs : List ℕ) (k t : ℕ) → Some t ≡ nth_of xs k → (k < length xs) × (get_or xs k 0 ≡ t)
-nth-at xs k t e = ⊎_elim
-    (λ l. (ltb-true k (length xs) l, let z = sym (cond-true (ltb k (length xs)) (Some (get_or xs k 0)) None l) in let y = e ∙ sym z in cc))
-    (λ l. let z = cond-false (ltb k (length xs)) (Some (get_or xs k 0)) None l in let y = e ∙ z in absurd (let w : ◌≡◌ {A = ℕ} 0 1 = cc in omega arith))
-    (cases_Bool (ltb k (length xs)))
+pub nth-at : (xs : List ℕ) (k t : ℕ) → Some t ≡ slice_get xs k → (k < length xs) × (get_or xs k 0 ≡ t)
+nth-at xs k t e = (slice_get_within xs k t (sym e), get_or_from_slice_get xs k t 0 (sym e))
 
-pub nth-move : (xs : List ℕ) (k t : ℕ) → Some t ≡ nth_of xs k → Some t ≡ move xs k
+pub nth-move : (xs : List ℕ) (k t : ℕ) → Some t ≡ slice_get xs k → Some t ≡ move xs k
 nth-move xs k t e =
     let p = nth-at xs k t e in
     sym (cond-true (ltb k (length xs)) (Some (get_or xs k nowhere)) None (lt-ltb k (length xs) p.0) ∙ ap Some (get_or_default xs k nowhere 0 p.0 ∙ p.1))

@@ -1,12 +1,11 @@
 -- The members of a set as a rising list.
-use Rattle.std.proofs.Common.{◌≡◌, ℕ, zero, suc, ◌+◌, ◌^◌, ◌<◌, ◌≤◌, Bool, true, false, cond, eqb, ltb, ◌⊎◌, ◌↔◌, List, [], ◌∷◌, length, get_or, drop, Some, None, filter, sym, refl, ap, ◌∙◌, subst, inl, inr, ⊎_elim, zero-add, arith}
+use Rattle.std.proofs.Common.{◌≡◌, ℕ, zero, suc, ◌+◌, ◌^◌, ◌<◌, ◌≤◌, Bool, true, false, cond, eqb, ◌⊎◌, ◌↔◌, List, [], ◌∷◌, length, get_or, filter, sym, refl, ap, ◌∙◌, subst, inl, inr, ⊎_elim, zero-add, arith}
 use Rattle.std.specs.List.{range_with_len}
-use Rattle.std.proofs.lemmas.Bool.{cases_eq, cases_Bool, eqb-true, eq-eqb, ne_eqb, both_ways, cond-true, cond-false, lt-ltb, le-ltb}
+use Rattle.std.proofs.lemmas.Bool.{cases_eq, cases_Bool, eqb-true, eq-eqb, ne_eqb, both_ways, cond-true, cond-false}
 use Rattle.std.proofs.lemmas.List.FromFn.{length-range_with_len}
-use Rattle.std.proofs.lemmas.List.{length-drop, drop_more, get_or-drop}
 use Rattle.std.proofs.ByRecursion.{All-get_or, kept_by_passes}
 use Rattle.sets.specs.declared.Set.{Set}
-use Rattle.sets.specs.Sets.{bit, In, members, nth_of, Splits}
+use Rattle.sets.specs.Sets.{bit, In, members, Splits}
 use Rattle.sets.proofs.Bits.{On, none_in, same_bits}
 
 kept_few : (p : ℕ → Bool) (xs : List ℕ) → length (filter p xs) ≤ length xs
@@ -69,29 +68,6 @@ members_split x k rest S = kept_first (λ j. eqb (bit x.bits j) 1) (λ j. eqb (b
     (λ h. eq-eqb (bit rest.bits j) 1 ((S.others j).1 (h, other)) ∙ sym (eq-eqb (bit x.bits j) 1 h))
     (λ h. ne_eqb (bit rest.bits j) 1 (λ r. h ((S.others j).0 r).0) ∙ sym (ne_eqb (bit x.bits j) 1 h))
     (cases_eq (bit x.bits j) 1))
-
--- what is left of a list, one further
-pub drop_next : (xs : List ℕ) (i y : ℕ) (ys : List ℕ) → drop i xs ≡ y ∷ ys → drop (i + 1) xs ≡ ys
-drop_next xs i y ys e =
-    let d = length-drop i xs in
-    let l = ap length e in
-    let f = drop_more xs i 0 (omega arith) in
-    cc
-
-pub drop-ends : (xs : List ℕ) (i : ℕ) → drop i xs ≡ [] → length xs ≤ i
-drop-ends xs i e = let l = ap length e in let d = length-drop i xs in omega arith
-
-pub nth_past : (xs : List ℕ) (k : ℕ) → length xs ≤ k → None ≡ nth_of xs k
-nth_past xs k past = sym (cond-false (ltb k (length xs)) (Some (get_or xs k 0)) None (le-ltb k (length xs) past))
-
-pub nth_here : (xs : List ℕ) (k y : ℕ) (ys : List ℕ) → drop k xs ≡ y ∷ ys → Some y ≡ nth_of xs k
-nth_here xs k y ys e =
-    let l = ap length e in
-    let d = length-drop k xs in
-    let low : k < length xs = omega arith in
-    let zero_more : k + 0 ≡ k = omega arith in
-    let at : get_or xs k 0 ≡ y = sym (ap (λ i. get_or xs i 0) zero_more) ∙ sym (get_or-drop k xs 0 0) ∙ ap (λ ws. get_or ws 0 0) e in
-    ap Some (sym at) ∙ sym (cond-true (ltb k (length xs)) (Some (get_or xs k 0)) None (lt-ltb k (length xs) low))
 
 -- the numbers from a up that pass a test, as places of a list
 kept_has : (p : ℕ → Bool) (n a j d : ℕ) → a ≤ j → j < a + n → p j ≡ true → (i : ℕ) × (i < length (filter p (range_with_len a n))) × (get_or (filter p (range_with_len a n)) i d ≡ j)

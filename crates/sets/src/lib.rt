@@ -1,8 +1,9 @@
 //! Sets of numbers below 128, one bit of a 128-bit word for each.
 #![tactic(auto)]
 
-ghost use Rattle.std.specs.Prelude.{◌≡◌, ℕ, ◌<◌, ◌≤◌, ◌⊎◌, ◌↔◌, length, Decides, MatchOption, ◌≢◌};
-ghost use Rattle.sets.specs.Sets.{bit, In, Splits, members, nth_of};
+ghost use Rattle.std.specs.Prelude.{◌≡◌, ℕ, ◌<◌, ◌≤◌, ◌⊎◌, ◌↔◌, true, false, length, Decides, MatchOption, ◌≢◌, slice_get};
+ghost use Rattle.std.specs.Iterator.{at_most};
+ghost use Rattle.sets.specs.Sets.{bit, In, Splits, members};
 
 #[derive(Clone, Copy, PartialEq, Eq)]
 pub struct Set {
@@ -35,6 +36,21 @@ impl Set {
             return Set::all();
         }
         Set { bits: (1 << n) - 1 }
+    }
+
+    /// The numbers below `n` and below 128 that pass a test.
+    pub fn from_fn<F: Fn(usize) -> bool>(n: usize, test: F) -> Set
+        requires { (k : ℕ) → k < n → k < 128 → F.pre test k }
+        ensures passed { (j : ℕ) → In result j → (j < n) × (j < 128) × F.post test j true }
+        ensures failed { (j : ℕ) → j < n → j < 128 → (In result j → ⊥) → F.post test j false }
+    {
+        let mut found = Set::NONE;
+        for k in 0..n.min(128) {
+            if test(k) {
+                found = found.with(k);
+            }
+        }
+        found
     }
 
     /// Whether `k` is in the set. No number from 128 up is.
@@ -134,29 +150,45 @@ impl Set {
     pub fn count(self) -> usize
         ensures { result ≡ length (members self) }
     {
-        let mut n = 0;
-        let mut left = self;
-        while let Some((_, rest)) = left.split_first() {
-            n += 1;
-            left = rest;
-        }
-        n
+        self.into_iter().count()
     }
 
     /// Member `k` of the members in rising order, from 0, if there are so many.
     pub fn nth(self, k: usize) -> Option<usize>
-        ensures { result ≡ nth_of (members self) k }
+        ensures { result ≡ slice_get (members self) k }
     {
-        let mut left = self;
-        for _ in 0..k {
-            match left.split_first() {
-                Some((_, rest)) => left = rest,
-                None => return None,
-            }
-        }
-        match left.split_first() {
-            Some((first, _)) => Some(first),
-            None => None,
-        }
+        self.into_iter().nth(k)
+    }
+}
+
+/// The members of a set that are still to come, rising.
+#[derive(Drop)]
+pub struct IntoIter {
+    left: Set,
+}
+
+impl Iterator for IntoIter {
+    type Item = usize;
+
+    ghost next_gives = { λ x r y. MatchOption r ((x.left.bits ≡ 0) × (y ≡ x)) (λ k. Splits x.left k y.left) };
+
+    ghost remaining = { λ x. at_most (length (members x.left)) };
+
+    fn next(&mut self) -> Option<usize> {
+        let (first, rest) = self.left.split_first()?;
+        self.left = rest;
+        Some(first)
+    }
+}
+
+impl IntoIterator for Set {
+    type Item = usize;
+
+    type IntoIter = IntoIter;
+
+    ghost into_iter_gives = { λ x r. r.left ≡ x };
+
+    fn into_iter(self) -> IntoIter {
+        IntoIter { left: self }
     }
 }

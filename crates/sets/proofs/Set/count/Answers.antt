@@ -1,22 +1,12 @@
-use Rattle.std.proofs.Common.{length, ap, arith}
-use Rattle.sets.proofs.Members.{members_few, members-none, members_split}
+use Rattle.std.proofs.Common.{length, ap, ◌∙◌, inl, arith}
+use Rattle.std.proofs.lemmas.Iterator.Consumers.{count_from_yields_List}
+use Rattle.sets.specs.Sets.{members}
+use Rattle.sets.proofs.Members.{members_few}
+use Rattle.sets.proofs.Iterating.{gives_members}
 use Rattle.sets.proofs.Set.count.Goals as goal
 
-pub loop-rest-init : goal.loop-rest-init
-loop-rest-init c = omega arith
-
-pub overflow_add-n : goal.overflow_add-n
-overflow_add-n c =
-    let e = ap length (members_split c.loop-rest.left c.in-Some.field-0-0 c.in-Some.rest c.in-Some.ensures) in
-    omega (arith, members_few c.args.self)
-
-pub loop-rest-smaller : goal.loop-rest-smaller
-loop-rest-smaller c = c.in-Some.ensures.falls
-
-pub loop-rest-preserved : goal.loop-rest-preserved
-loop-rest-preserved c =
-    let e = ap length (members_split c.loop-rest.left c.in-Some.field-0-0 c.in-Some.rest c.in-Some.ensures) in
-    omega arith
+pub count-requires-clause-fits : goal.count-requires-clause-fits
+count-requires-clause-fits c = inl (omega (arith, members_few c.into_iter.result.left))
 
 pub returns : goal.returns
-returns c = let e = ap length (members-none c.loop-rest.left c.in_default.ensures) in omega arith
+returns c = count_from_yields_List _ _ c.count.ensures.ran (gives_members c.into_iter.result) ∙ ap (λ x. length (members x)) c.into_iter.ensures.into_iter_gives
