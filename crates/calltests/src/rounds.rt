@@ -146,7 +146,7 @@ fn a_list_of_calls(rt: HostRuntime) -> Result<(), Fail> {
         Call::Together(0, 3),
         Call::Reduced,
     ];
-    let mut answers = [Answer::Filled; 6];
+    let mut answers = [Ok(Answer::Filled); 6];
     let mut out = Reduced::empty();
     let mut analysis = Analysis::new();
     let opened = analysis.perform(
@@ -163,12 +163,12 @@ fn a_list_of_calls(rt: HostRuntime) -> Result<(), Fail> {
         settled: true,
     };
     let wanted = [
-        Answer::Refused(Refusal::NotSettled),
-        Answer::Class(0),
-        Answer::Ran(ran),
-        Answer::Class(2),
-        Answer::Refused(Refusal::Settled),
-        Answer::Together(true),
+        Err(Refusal::NotSettled),
+        Ok(Answer::Class(0)),
+        Ok(Answer::Ran(ran)),
+        Ok(Answer::Class(2)),
+        Err(Refusal::Settled),
+        Ok(Answer::Together(true)),
     ];
     assert_eq!(rt; answers, wanted);
     // the last answer has no place, and its call is made all the same

@@ -1,5 +1,7 @@
 -- Calls made one after the other.
 use Rattle.std.proofs.Common.{◌≡◌, ℕ, zero, suc, ◌+◌, ◌-◌, ◌<◌, ◌≤◌, Bool, ◌⊎◌, List, [], ◌∷◌, ◌++◌, length, get_or, take, set, Ok, Err, Result, sym, refl, ap, ◌∙◌, subst, inl, inr, ⊎_elim, arith}
+use Rattle.std.specs.Prelude.{MatchResult, IsOkAnd}
+use Rattle.std.specs.Result.{result_and}
 use Rattle.std.proofs.lemmas.Bool.{cases_eq}
 use Rattle.std.proofs.lemmas.List.{take_more, get_or-set_same, get_or-set_other, length-set}
 use Rattle.kripke.specs.Models.{Kripke, WellFormed}
@@ -12,20 +14,31 @@ use Rattle.merger.specs.declared.answers.Ran.{Ran}
 use Rattle.merger.specs.declared.lists.Call.{Call}
 use Rattle.merger.specs.declared.lists.Call.TheVariants.{Round, Run, Class, Together, Reduced}
 use Rattle.merger.specs.declared.lists.Answer.{Answer}
-use Rattle.merger.specs.declared.lists.Answer.TheVariants.{Class as InClass, Filled}
+use Rattle.merger.specs.declared.lists.Answer.TheVariants.{Made as WasMade, Ran as HasRun, Class as InClass, Together as AreTogether, Filled}
 use Rattle.merger.specs.declared.reduced.Reduced.{Reduced as ReducedModel}
-use Rattle.merger.specs.Lists.{made_answer, ran_answer, class_answer, together_answer, reduced_answer}
 use Rattle.merger.specs.Promise.{Classes, Promise}
 use Rattle.merger.specs.Reducing.{meaning, Fills}
 use Rattle.merger.specs.Tells.{ClassTells, ReducedTells}
 use Rattle.merger.specs.Calls.{Analysed, RoundAnswer, RunAnswer, ClassAnswer, TogetherAnswer, ReducedAnswer}
-use Rattle.merger.specs.Runs.{asks, asked, CallTells, CallAnswer, call_at, rounds_before, SettledBefore, Due, Classed, Performed}
+use Rattle.merger.specs.Runs.{Answered, answer_of, asks, asked, CallTells, CallAnswer, call_at, rounds_before, SettledBefore, Due, Classed, Performed}
 use Rattle.merger.proofs.Rounding.{settles_once}
 use Rattle.merger.proofs.Promising.{promise}
 use Rattle.merger.proofs.Calling.{promises, continues_none}
 
+-- a result whose answer is put into its form
+pub answer_is : {T : Type 0} (form : T → Answer) (w : Result T Refusal) (answer : Answered) →
+    MatchResult w (λ x. IsOkAnd answer (λ y. y ≡ form x)) (λ e. answer ≡ Err e) → answer ≡ answer_of form w
+answer_is form (Ok x) (Ok y) h = ap Ok h
+answer_is form (Ok x) (Err e) h = absurd h
+answer_is form (Err e) answer h = h
+
+-- the same of a call that answers nothing but that the model is filled
+pub filled_is : (w : Result (Unit {0}) Refusal) (answer : Answered) → answer ≡ result_and w (Ok Filled) → answer ≡ answer_of (λ _. Filled) w
+filled_is (Ok x) answer h = h
+filled_is (Err e) answer h = h
+
 module _ (a b : Analysis) (x : ReducedModel) where
-  pub call_round : (w : Result Made Refusal) (answer : Answer) → answer ≡ made_answer w → RoundAnswer a b w → CallAnswer a b x x Round answer
+  pub call_round : (w : Result Made Refusal) (answer : Answered) → answer ≡ answer_of WasMade w → RoundAnswer a b w → CallAnswer a b x x Round answer
   call_round w answer e A = record {
     continues = A.continues;
     told = λ M r B. (w, e, A.told M r B);
@@ -33,7 +46,7 @@ module _ (a b : Analysis) (x : ReducedModel) where
     keeps = λ M r B n. refl;
   }
 
-  pub call_run : (budget : ℕ) (w : Result Ran Refusal) (answer : Answer) → answer ≡ ran_answer w → RunAnswer a b budget w → CallAnswer a b x x (Run budget) answer
+  pub call_run : (budget : ℕ) (w : Result Ran Refusal) (answer : Answered) → answer ≡ answer_of HasRun w → RunAnswer a b budget w → CallAnswer a b x x (Run budget) answer
   call_run budget w answer e A = record {
     continues = A.continues;
     told = λ M r B. (w, e, A.told M r B);
@@ -42,7 +55,7 @@ module _ (a b : Analysis) (x : ReducedModel) where
   }
 
 module _ (a : Analysis) (x : ReducedModel) where
-  pub call_class : (s : ℕ) (w : Result ℕ Refusal) (answer : Answer) → answer ≡ class_answer w → ClassAnswer a s w → CallAnswer a a x x (Class s) answer
+  pub call_class : (s : ℕ) (w : Result ℕ Refusal) (answer : Answered) → answer ≡ answer_of InClass w → ClassAnswer a s w → CallAnswer a a x x (Class s) answer
   call_class s w answer e A = record {
     continues = continues_none a;
     told = λ M r B. (w, e, A.told M r B);
@@ -50,7 +63,7 @@ module _ (a : Analysis) (x : ReducedModel) where
     keeps = λ M r B n. refl;
   }
 
-  pub call_together : (s t : ℕ) (w : Result Bool Refusal) (answer : Answer) → answer ≡ together_answer w → TogetherAnswer a s t w → CallAnswer a a x x (Together s t) answer
+  pub call_together : (s t : ℕ) (w : Result Bool Refusal) (answer : Answered) → answer ≡ answer_of AreTogether w → TogetherAnswer a s t w → CallAnswer a a x x (Together s t) answer
   call_together s t w answer e A = record {
     continues = continues_none a;
     told = λ M r B. (w, e, A.told M r B);
@@ -58,15 +71,15 @@ module _ (a : Analysis) (x : ReducedModel) where
     keeps = λ M r B n. refl;
   }
 
-reduced_told : (M : Kripke) (r : ℕ) (x y : ReducedModel) (w : Result (Unit {0}) Refusal) → ReducedTells M r x y w → CallTells M r Reduced (reduced_answer w)
-reduced_told M r x y (Ok u) T = ((λ z. refl), λ n. (Ok u, refl, (T.going n).0))
-reduced_told M r x y (Err e) T = ((λ z. absurd (T.settled z)), λ n. (Err e, refl, (T.going n).0))
+reduced_told : (M : Kripke) (r : ℕ) (x y : ReducedModel) (w : Result (Unit {0}) Refusal) → ReducedTells M r x y w → CallTells M r Reduced (answer_of (λ _. Filled) w)
+reduced_told M r x y (Ok u) T = ((λ z. refl), λ n. (T.going n).0)
+reduced_told M r x y (Err e) T = ((λ z. absurd (T.settled z)), λ n. (T.going n).0)
 
 reduced_fills : (M : Kripke) (r : ℕ) (x y : ReducedModel) (w : Result (Unit {0}) Refusal) → ReducedTells M r x y w → Settles M r → Fills M r (meaning y)
 reduced_fills M r x y (Ok u) T z = T.settled z
 reduced_fills M r x y (Err e) T z = absurd (T.settled z)
 
-pub call_reduced : (a : Analysis) (x y : ReducedModel) (w : Result (Unit {0}) Refusal) (answer : Answer) → answer ≡ reduced_answer w → ReducedAnswer a x y w →
+pub call_reduced : (a : Analysis) (x y : ReducedModel) (w : Result (Unit {0}) Refusal) (answer : Answered) → answer ≡ answer_of (λ _. Filled) w → ReducedAnswer a x y w →
     CallAnswer a a x y Reduced answer
 call_reduced a x y w answer e A = record {
   continues = continues_none a;
@@ -105,15 +118,15 @@ asked_up calls j i l h =
     subst (λ k. asked (take j calls) ≤ asked (take k calls)) e (asked_later calls j (i - j) (omega arith))
 
 -- the calls before i are made
-pub record Sofar (M : Kripke) (calls : List Call) (answers answers' : List Answer) (z : ℕ) (b : Analysis) (x y : ReducedModel) (i : ℕ) : Type 0 where
+pub record Sofar (M : Kripke) (calls : List Call) (answers answers' : List Answered) (z : ℕ) (b : Analysis) (x y : ReducedModel) (i : ℕ) : Type 0 where
   pub stands : Analysed M (rounds_before calls z i) b
-  pub answered : (j : ℕ) (d : Answer) → j < i → j < length answers → CallTells M (rounds_before calls z j) (call_at calls j) (get_or answers' j d)
-  pub others : (j : ℕ) (d : Answer) → i ≤ j → get_or answers' j d ≡ get_or answers j d
+  pub answered : (j : ℕ) (d : Answered) → j < i → j < length answers → CallTells M (rounds_before calls z j) (call_at calls j) (get_or answers' j d)
+  pub others : (j : ℕ) (d : Answered) → i ≤ j → get_or answers' j d ≡ get_or answers j d
   pub room : length answers' ≡ length answers
   pub filled : (j : ℕ) → j < i → Due calls z j → Fills M z (meaning y)
   pub left : ((j : ℕ) → j < i → Due calls z j → ⊥) → y ≡ x
 
-module _ (M : Kripke) (calls : List Call) (answers : List Answer) (z : ℕ) (S : Settles M z) (x : ReducedModel) where
+module _ (M : Kripke) (calls : List Call) (answers : List Answered) (z : ℕ) (S : Settles M z) (x : ReducedModel) where
   pub sofar_none : (b : Analysis) → Analysed M 0 b → Sofar M calls answers answers z b x x 0
   sofar_none b A = record {
     stands = subst (λ q. Analysed M q b) (omega arith) A;
@@ -124,8 +137,8 @@ module _ (M : Kripke) (calls : List Call) (answers : List Answer) (z : ℕ) (S :
     left = λ n. refl;
   }
 
-  module _ (answers' : List Answer) (b b' : Analysis) (y y' : ReducedModel) (i : ℕ) (h : i < length calls) (P : Sofar M calls answers answers' z b x y i)
-      (answer : Answer) (C : CallAnswer b b' y y' (call_at calls i) answer) where
+  module _ (answers' : List Answered) (b b' : Analysis) (y y' : ReducedModel) (i : ℕ) (h : i < length calls) (P : Sofar M calls answers answers' z b x y i)
+      (answer : Answered) (C : CallAnswer b b' y y' (call_at calls i) answer) where
     -- the settling round is made just if it was asked for
     settled-now : SettledBefore calls z i → Settles M (rounds_before calls z i)
     settled-now l = let e : z ≡ rounds_before calls z i = omega arith in subst (Settles M) e S
@@ -192,13 +205,13 @@ module _ (M : Kripke) (calls : List Call) (answers : List Answer) (z : ℕ) (S :
     }
 
 -- what a call that asks for a class answers
-class_ok : (M : Kripke) (r s c : ℕ) (w : Result ℕ Refusal) → s < M.frame.size → ClassTells M r s w → class_answer w ≡ InClass c →
+class_ok : (M : Kripke) (r s c : ℕ) (w : Result ℕ Refusal) → s < M.frame.size → ClassTells M r s w → answer_of InClass w ≡ Ok (InClass c) →
     (f : ℕ → ℕ) (m : ℕ) → Classes M r f m → c ≡ f s
 class_ok M r s c (Ok d) h T e f m N = let v = T.told h f m N in let i : d ≡ c = cc in sym i ∙ v
 class_ok M r s c (Err x) h T e f m N = absurd (T.told h)
 
 -- all calls are made
-module _ (M : Kripke) (calls : List Call) (answers answers' : List Answer) (z : ℕ) (S : Settles M z) (b : Analysis) (x y : ReducedModel)
+module _ (M : Kripke) (calls : List Call) (answers answers' : List Answered) (z : ℕ) (S : Settles M z) (b : Analysis) (x y : ReducedModel)
     (P : Sofar M calls answers answers' z b x y (length calls)) where
   formed : WellFormed M
   formed = P.stands.tabled.surveyed.formed
@@ -209,8 +222,8 @@ module _ (M : Kripke) (calls : List Call) (answers answers' : List Answer) (z : 
   value : (i s c : ℕ) → Classed M calls answers' i s c → (f : ℕ → ℕ) (m : ℕ) → Classes M (rounds_before calls z i) f m → c ≡ f s
   value i s c K f m N =
       let room = P.room in
-      let T = subst (λ k. CallTells M (rounds_before calls z i) k (get_or answers' i Filled)) K.call (P.answered i Filled K.within (let b = K.room in omega arith)) in
-      class_ok M (rounds_before calls z i) s c T.0 K.state T.2 (sym T.1 ∙ K.answer Filled) f m N
+      let T = subst (λ k. CallTells M (rounds_before calls z i) k (get_or answers' i (Ok Filled))) K.call (P.answered i (Ok Filled) K.within (let b = K.room in omega arith)) in
+      class_ok M (rounds_before calls z i) s c T.0 K.state T.2 (sym T.1 ∙ K.answer (Ok Filled)) f m N
 
   -- two classes by one numbering
   both : (r i j s t c e : ℕ) → rounds_before calls z i ≡ r → rounds_before calls z j ≡ r → Classed M calls answers' i s c → Classed M calls answers' j t e →

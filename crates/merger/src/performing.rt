@@ -6,27 +6,27 @@ ghost use Rattle.merger.specs.Runs.{CallAnswer, Performed, PerformAnswer};
 
 use crate::analysis::Analysis;
 use crate::answers::{OpenRefusal, Opened};
-use crate::lists::{Answer, Call};
+use crate::lists::{Answer, Answered, Call};
 use crate::reduced::Reduced;
 use components::Walk;
 use models::Model;
 
 impl Analysis {
     // Makes one call; `out` is the model that `Call::Reduced` fills.
-    fn make(&mut self, call: Call, out: &mut Reduced) -> Answer
+    fn make(&mut self, call: Call, out: &mut Reduced) -> Answered
         ensures { CallAnswer self.old self.new out.old out.new call result }
     {
         match call {
-            Call::Round => self.round().into(),
-            Call::Run(budget) => self.run(budget).into(),
-            Call::Class(s) => self.class(s).into(),
-            Call::Together(s, t) => self.together(s, t).into(),
-            Call::Reduced => self.reduced(out).into(),
+            Call::Round => self.round().map(Answer::Made),
+            Call::Run(budget) => self.run(budget).map(Answer::Ran),
+            Call::Class(s) => self.class(s).map(Answer::Class),
+            Call::Together(s, t) => self.together(s, t).map(Answer::Together),
+            Call::Reduced => self.reduced(out).and(Ok(Answer::Filled)),
         }
     }
 
     // Makes the calls in order, and puts down the answers for which there is room.
-    fn make_all(&mut self, calls: &[Call], answers: &mut [Answer], out: &mut Reduced)
+    fn make_all(&mut self, calls: &[Call], answers: &mut [Answered], out: &mut Reduced)
         ensures { (M : Kripke) → Analysed M 0 self.old → Performed M calls.now answers.old answers.new self.new out.old out.new }
     {
         for (i, call) in calls.iter().enumerate() {
@@ -45,7 +45,7 @@ impl Analysis {
         walks: &mut [Walk],
         states: &mut [u16],
         calls: &[Call],
-        answers: &mut [Answer],
+        answers: &mut [Answered],
         out: &mut Reduced,
     ) -> Result<Opened, OpenRefusal>
         ensures { PerformAnswer (M.Model.means model.now) self.old self.new walks.old walks.new states.old states.new calls.now answers.old answers.new out.old out.new result }

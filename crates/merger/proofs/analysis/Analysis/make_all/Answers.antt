@@ -1,5 +1,5 @@
 use Rattle.std.proofs.Common.{◌≡◌, ◌+◌, List, length, sym, subst, arith}
-use Rattle.merger.specs.declared.lists.Answer.{Answer}
+use Rattle.merger.specs.Runs.{Answered}
 use Rattle.merger.proofs.Rounding.{settling}
 use Rattle.merger.proofs.Making.{Sofar, sofar_none, sofar_put, sofar_past, performed}
 use Rattle.merger.proofs.analysis.Analysis.make_all.Goals as goal
@@ -14,7 +14,7 @@ loop-i-preserved c M z S A =
     let i = c.loop-i.i in
     let l = c.loop-i in
     let m = c.make-answer in
-    let Is : List Answer → Type 0 = λ answers. Sofar M c.args.calls.now c.args.answers.now answers z m.new.self c.args.out.now m.new.out (i + 1) in
+    let Is : List Answered → Type 0 = λ answers. Sofar M c.args.calls.now c.args.answers.now answers z m.new.self c.args.out.now m.new.out (i + 1) in
     elim c.if-i-answers.branch [
       | then-i-answers w ↦ subst Is (sym w.answers-is)
           (sofar_put M _ _ z S _ l.answers l.self m.new.self l.out m.new.out i c.loop-i-test.true P m.result m.ensures w.if-i-answers.true)
