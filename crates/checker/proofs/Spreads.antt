@@ -9,27 +9,6 @@ use Rattle.checker.specs.Tables.{Goes, Closed, Feeds}
 pub over : {A B C R : Type 0} → R ↔ (A × B) → B ↔ C → R ↔ (A × C)
 over p q = (λ r. let s = p.0 r in (s.0, q.0 s.1), λ s. p.1 (s.0, q.1 s.1))
 
--- one state more looked at
-module _ (rows : List Set) (x : Set) (s : ℕ) (found r : Set) (inv : (j : ℕ) → In found j ↔ Feeds rows x s j) where
-  pub feeds_more : s < 128 → ((t : ℕ) × In (get_or rows s none) t × In x t) → ((j : ℕ) → In r j ↔ (In found j ⊎ ((j ≡ s) × (s < 128)))) →
-      (j : ℕ) → In r j ↔ Feeds rows x (s + 1) j
-  feeds_more low m added j = (
-    λ h. ⊎_elim
-        (λ o. let f = (inv j).0 o in (f.0, omega (arith, f.1), f.2, f.3))
-        (λ e. let here = e.0 in (m.0, omega arith, subst (λ (y : ℕ). Goes rows y m.0) (sym here) m.1, m.2))
-        ((added j).0 h),
-    λ f. (added j).1 (⊎_elim (λ e. inr (e, low)) (λ n. inl ((inv j).1 (f.0, omega (arith, f.1), f.2, f.3))) (cases_eq j s)),
-  )
-
-  pub feeds_none : (((t : ℕ) × In (get_or rows s none) t × In x t) → ⊥) → (j : ℕ) → In found j ↔ Feeds rows x (s + 1) j
-  feeds_none no' j = (
-    λ h. let f = (inv j).0 h in (f.0, omega (arith, f.1), f.2, f.3),
-    λ f. ⊎_elim
-        (λ e. absurd (no' (f.0, subst (λ (y : ℕ). Goes rows y f.0) e f.2, f.3)))
-        (λ n. (inv j).1 (f.0, omega (arith, f.1), f.2, f.3))
-        (cases_eq j s),
-  )
-
 -- of the states below n, x has those with a path of k moves in f
 abbrev pub Lasts : List Set → ℕ → Set → Set → ℕ → Type 0
 Lasts rows n f x k = (s : ℕ) → s < n → In x s ↔ Stays (Goes rows) (In f) k s

@@ -12,13 +12,7 @@ fn before(rows: &Rows, n: usize, x: Set) -> Set
     requires { n ≤ 128 }
     ensures { (s : ℕ) → In result s ↔ Feeds rows.now x n s }
 {
-    let mut found = Set::NONE;
-    for s in 0..n {
-        if rows[s].meets(x) {
-            found = found.with(s);
-        }
-    }
-    found
+    Set::from_fn(n, |s| rows[s].meets(x))
 }
 
 // The states below `n` with a path that ends in `g` and is in `f` before.

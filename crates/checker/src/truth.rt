@@ -20,13 +20,7 @@ fn labelled<M: Model>(model: &M, a: u8) -> Set
     requires { Sized (M.Model.means model.now).frame }
     ensures { SetIs (M.Model.means model.now) (word a) result }
 {
-    let mut found = Set::NONE;
-    for s in 0..model.size() {
-        if model.holds(a, s) {
-            found = found.with(s as usize);
-        }
-    }
-    found
+    Set::from_fn(model.size() as usize, |s| model.holds(a, s as u16))
 }
 
 // Where a step is true, of the sets where its operands are.
