@@ -21,18 +21,14 @@ pub trait Label {
     /// How many words the kind has.
     const WORDS: u8;
 
-    // the count of words: `WORDS`, for clauses
-    ghost count: { ℕ };
+    // the same, for clauses
+    ghost WORDS: { ℕ };
 
     // the words that hold of a label
     ghost means: { Self → Words };
 
     // at most 64 words, and none at or above the count holds of a label
-    ghost lawful: { Lawful count means };
-
-    /// `WORDS`, with the promise that it is the count.
-    fn word_count() -> u8
-        ensures { result ≡ count };
+    ghost lawful: { Lawful WORDS means };
 
     /// Whether word `a` holds of this label.
     fn holds(&self, a: u8) -> bool
@@ -42,7 +38,7 @@ pub trait Label {
     fn same(&self, other: &Self) -> bool
         ensures { TellsSame result (means self.now) (means other.now) }
     {
-        for a in 0..Self::word_count() {
+        for a in 0..Self::WORDS {
             if self.holds(a) != other.holds(a) {
                 return false;
             }
@@ -55,7 +51,7 @@ pub trait Label {
         ensures { SameWords (fact_words result) (means self.now) }
     {
         let mut all = Facts::NONE;
-        for a in 0..Self::word_count() {
+        for a in 0..Self::WORDS {
             if self.holds(a) {
                 all = all.with(a);
             }

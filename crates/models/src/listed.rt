@@ -46,16 +46,16 @@ impl<L> Listed<'_, L> {
 }
 
 impl<L: Label> KripkeModel for Listed<'_, L> {
-    ghost means = { λ m. listed L.Label.count L.Label.means m.labels.now m.offsets.now m.targets.now };
+    ghost means = { λ m. listed L.WORDS L.means m.labels.now m.offsets.now m.targets.now };
 
-    ghost formed = { λ m. listed_formed L.Label.count L.Label.means m.labels.now m.offsets.now m.targets.now L.Label.lawful };
+    ghost formed = { λ m. listed_formed L.WORDS L.means m.labels.now m.offsets.now m.targets.now L.lawful };
 
     fn size(&self) -> u16 {
         self.state_count()
     }
 
     fn words(&self) -> u8 {
-        L::word_count()
+        L::WORDS
     }
 
     fn holds(&self, a: u8, s: u16) -> bool {
