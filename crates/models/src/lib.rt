@@ -38,25 +38,14 @@ pub trait Label {
     fn same(&self, other: &Self) -> bool
         ensures { TellsSame result (means self.now) (means other.now) }
     {
-        for a in 0..Self::WORDS {
-            if self.holds(a) != other.holds(a) {
-                return false;
-            }
-        }
-        true
+        (0..Self::WORDS).all(|a| self.holds(a) == other.holds(a))
     }
 
     /// The words that hold of this label, as facts: word `a` is bit `a`.
     fn facts(&self) -> Facts
         ensures { SameWords (fact_words result) (means self.now) }
     {
-        let mut all = Facts::NONE;
-        for a in 0..Self::WORDS {
-            if self.holds(a) {
-                all = all.with(a);
-            }
-        }
-        all
+        Facts::from_fn(Self::WORDS, |a| self.holds(a))
     }
 }
 
@@ -92,27 +81,14 @@ pub trait Model {
     fn alike(&self, s: u16, t: u16) -> bool
         ensures { TellsAlike result (means self.now) s t }
     {
-        if s >= self.size() || t >= self.size() {
-            return false;
-        }
-        for a in 0..self.words() {
-            if self.holds(a, s) != self.holds(a, t) {
-                return false;
-            }
-        }
-        true
+        let n = self.size();
+        s < n && t < n && (0..self.words()).all(|a| self.holds(a, s) == self.holds(a, t))
     }
 
     /// The words that hold at state `s`, as facts: word `a` is bit `a`.
     fn facts(&self, s: u16) -> Facts
         ensures { SameWords (fact_words result) (words_at (means self.now) s) }
     {
-        let mut all = Facts::NONE;
-        for a in 0..self.words() {
-            if self.holds(a, s) {
-                all = all.with(a);
-            }
-        }
-        all
+        Facts::from_fn(self.words(), |a| self.holds(a, s))
     }
 }
