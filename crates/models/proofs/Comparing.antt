@@ -16,8 +16,8 @@ pub tells_same : (n : ℕ) (v w : Words) (r : Bool) → Within n v → Within n 
 tells_same n v w r p q told =
     let each : ℕ → Bool = λ a. beq (v a) (w a) in (
       λ e. same_below n v w p q (λ a l.
-      let inside : a < length (range_with_len 0 n) = omega (arith, length-range_with_len 0 n) in
-      let at : each (0 + a) ≡ true = rw get_or-range_with_len at (AllPass-from_list_all each (range_with_len 0 n) (sym told ∙ e) a 0 inside) in
-      (booleans_Decides (v a) (w a)).0 (rw (zero-add a) at at)),
+          let inside : a < length (range_with_len 0 n) = omega (arith, length-range_with_len 0 n) in
+          let at : each (0 + a) ≡ true = rw get_or-range_with_len at (AllPass-from_list_all each (range_with_len 0 n) (sym told ∙ e) a 0 inside) in
+          (booleans_Decides (v a) (w a)).0 (rw (zero-add a) at at)),
       λ h. told ∙ list_all-from_AllPass each (range_with_len 0 n) (λ k d l. (booleans_Decides _ _).1 (h _)),
     )

@@ -13,6 +13,6 @@ returns-then-t-n g c =
     let w = M.labels.words c.args.t in
     let n = M.labels.count in
     let same = tells_same n v w _ (sound.within _) (sound.within _)
-        (all_from_yields_List (λ (a : ℕ). beq (v a) (w a)) _ _ _ c.all.ensures.ran (YieldsList-from_range 0 n n (cc) (omega arith)) (λ x b q k. search (rules, tests))) in
+    (all_from_yields_List (λ (a : ℕ). beq (v a) (w a)) _ _ _ c.all.ensures.ran (YieldsList-from_range 0 n n (cc) (omega arith)) (λ x b q k. search (rules, tests))) in
     let states : (c.args.s < M.frame.size) × (c.args.t < M.frame.size) = search rules in
     (λ yes'. (states.0, states.1, same.0 yes'), λ alike. same.1 alike.2)
