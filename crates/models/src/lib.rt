@@ -7,11 +7,13 @@ ghost use Rattle.kripke.specs.Models.{Kripke, WellFormed, TellsAlike, words_at, 
 ghost use Rattle.models.specs.Facts.{fact_words};
 
 use crate::facts::Facts;
+use crate::moves::Moves;
 
 pub mod beside;
 pub mod facts;
 pub mod lent;
 pub mod listed;
+pub mod moves;
 pub mod rested;
 pub mod sun;
 
@@ -90,5 +92,18 @@ pub trait Model {
         ensures { SameWords (fact_words result) (words_at (means self.now) s) }
     {
         Facts::from_fn(self.words(), |a| self.holds(a, s))
+    }
+
+    /// Where the moves of the row of `s` go, one after the other.
+    final fn moves(&self, s: u16) -> Moves<'_, Self>
+    where
+        Self: Sized,
+        ensures { result ≡ (means self.now).frame.row s }
+    {
+        Moves {
+            model: self,
+            state: s,
+            told: 0,
+        }
     }
 }
