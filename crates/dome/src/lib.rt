@@ -6,7 +6,7 @@ ghost use Rattle.dome.specs.Dome.{dome_words, dome_lawful};
 use models::Label;
 
 /// Word 0 is slit open, word 1 is turning.
-#[derive(Clone, Copy)]
+#[derive(Clone, Copy, Debug, PartialEq, Eq)]
 pub struct Dome {
     pub open: bool,
     pub turning: bool,

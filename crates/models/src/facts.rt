@@ -56,6 +56,7 @@ impl Label for Facts {
     }
 
     fn same(&self, other: &Facts) -> bool {
+        // Kept: of `self == other` a proof does not learn that both numbers have 64 bits at most, as the law needs.
         self.bits == other.bits
     }
 

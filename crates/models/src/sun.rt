@@ -12,7 +12,7 @@ const NAUTICAL: i16 = -720;
 
 const ASTRONOMICAL: i16 = -1080;
 
-#[derive(Clone, Copy)]
+#[derive(Clone, Copy, Debug, PartialEq, Eq)]
 pub struct Sun {
     // of the sun's centre, in arcminutes
     pub altitude: i16,

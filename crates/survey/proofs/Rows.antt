@@ -1,7 +1,6 @@
 -- A row that is read move by move, and a table that is filled row by row.
 use Rattle.std.proofs.Common.{◌≡◌, ℕ, zero, suc, ◌+◌, ◌<◌, ◌≤◌, ◌⊎◌, ◌↔◌, List, length, get_or, set, replicate, sym, refl, ◌∙◌, subst, inl, inr, ⊎_elim, arith, below_more}
 use Rattle.std.proofs.lemmas.Bool.{cases_eq, cases_lt}
-use Rattle.std.proofs.lemmas.Bool.Decides.{nat_tests}
 use Rattle.std.proofs.lemmas.List.{get_or_past, get_or-set_same, get_or-set_other}
 use Rattle.std.proofs.ByRecursion.{All-get_or}
 use Rattle.kripke.specs.Models.{Frame, SoundFrame, TotalRow, Lands, nowhere}
@@ -60,8 +59,7 @@ none_seen row k begun = ⊎_elim
 pub row_done : (F : Frame) → SoundFrame F → (s : ℕ) (x : Set) (k : ℕ) → s < F.size → length (F.row s) ≤ k → 0 < k →
     Clear (F.row s) k → Begun (F.row s) k x → TotalRow F.size (F.row s) × RowIs F s x
 row_done F sound s x k h past some clear begun =
-    let inside = λ (j : ℕ) (l : j < k). not_past (F.row s) j (clear j l) in
-    (
+    let inside = λ (j : ℕ) (l : j < k). not_past (F.row s) j (clear j l) in (
       record { some = omega (arith, inside 0 some); lands = λ j l. lands_in F sound s j (get_or (F.row s) j nowhere) l refl (clear j (omega arith)) },
       λ t. (
         λ i. let p = (begun t).0 i in
