@@ -97,10 +97,8 @@ fn push_node(text: &mut String, s: u16, node: &str, class: u16) -> anyhow::Resul
 }
 
 fn push_row<M: Model>(text: &mut String, model: &M, s: u16) -> anyhow::Result<()> {
-    for k in 0..model.degree(s) {
-        if let Some(t) = model.target(s, k) {
-            writeln!(text, "  {s} -> {t};")?;
-        }
+    for t in model.moves(s) {
+        writeln!(text, "  {s} -> {t};")?;
     }
     Ok(())
 }

@@ -27,10 +27,8 @@ fn state_line<M: Model>(heap: Global, model: &M, s: u16) -> anyhow::Result<Strin
         }
     }
     line.push_str(" moves")?;
-    for k in 0..model.degree(s) {
-        if let Some(t) = model.target(s, k) {
-            write!(line, " {t}")?;
-        }
+    for t in model.moves(s) {
+        write!(line, " {t}")?;
     }
     Ok(line)
 }

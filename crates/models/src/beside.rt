@@ -1,7 +1,8 @@
 //! Two models as one.
-ghost use Rattle.std.specs.Prelude.{◌≡◌, ◌≤◌};
-ghost use Rattle.kripke.specs.Kinds.{beside, beside_size, shifted};
+ghost use Rattle.std.specs.Prelude.{◌≡◌};
+ghost use Rattle.kripke.specs.Kinds.{beside};
 ghost use Rattle.kripke.proofs.Sides.{beside_formed};
+ghost use Rattle.models.specs.Sides.{side_of};
 
 use crate::Model as KripkeModel;
 use crate::facts::Facts;
@@ -14,13 +15,36 @@ pub struct SideBySide<A, B> {
     pub second: B,
 }
 
-impl<A: KripkeModel, B: KripkeModel> KripkeModel for SideBySide<A, B> {
-    ghost means = { λ m. beside (A.Model.means m.first) (B.Model.means m.second) };
+// Which of the two models a state belongs to, and its number there.
+#[derive(Clone, Copy)]
+enum Side {
+    First(u16),
+    Second(u16),
+}
 
-    ghost formed = { λ m. beside_formed _ _ (A.Model.formed m.first) (B.Model.formed m.second) };
+impl<A: KripkeModel, B: KripkeModel> SideBySide<A, B> {
+    fn side(&self, s: u16) -> Option<Side>
+        ensures { result ≡ side_of (A.means self.now.first).frame.size (B.means self.now.second).frame.size s }
+    {
+        let n = self.first.size();
+        if s >= self.size() {
+            None
+        } else if s < n {
+            Some(Side::First(s))
+        } else {
+            Some(Side::Second(s - n))
+        }
+    }
+}
+
+impl<A: KripkeModel, B: KripkeModel> KripkeModel for SideBySide<A, B> {
+    ghost means = { λ m. beside (A.means m.first) (B.means m.second) };
+
+    ghost formed = { λ m. beside_formed _ _ (A.formed m.first) (B.formed m.second) };
 
     fn size(&self) -> u16 {
-        joint_size(self.first.size(), self.second.size())
+        let n = self.first.size() + self.second.size();
+        if n <= LIMIT { n } else { 0 }
     }
 
     fn words(&self) -> u8 {
@@ -28,68 +52,37 @@ impl<A: KripkeModel, B: KripkeModel> KripkeModel for SideBySide<A, B> {
     }
 
     fn holds(&self, a: u8, s: u16) -> bool {
-        if s >= self.size() {
-            return false;
-        }
-        let n = self.first.size();
-        if s < n {
-            self.first.holds(a, s)
-        } else {
-            self.second.holds(a, s - n)
+        match self.side(s) {
+            Some(Side::First(own)) => self.first.holds(a, own),
+            Some(Side::Second(own)) => self.second.holds(a, own),
+            None => false,
         }
     }
 
     fn degree(&self, s: u16) -> u16 {
-        if s >= self.size() {
-            return 0;
-        }
-        let n = self.first.size();
-        if s < n {
-            self.first.degree(s)
-        } else {
-            self.second.degree(s - n)
+        match self.side(s) {
+            Some(Side::First(own)) => self.first.degree(own),
+            Some(Side::Second(own)) => self.second.degree(own),
+            None => 0,
         }
     }
 
     fn target(&self, s: u16, k: u16) -> Option<u16> {
-        if s >= self.size() {
-            return None;
-        }
-        let n = self.first.size();
-        if s < n {
-            return self.first.target(s, k);
-        }
-        match self.second.target(s - n, k) {
-            Some(t) => Some(shift(n, t)),
-            None => None,
+        match self.side(s)? {
+            Side::First(own) => self.first.target(own, k),
+            // the second model's states begin at `s - own`
+            Side::Second(own) => self
+                .second
+                .target(own, k)
+                .map(|t| if t < NOWHERE { s - own + t } else { NOWHERE }),
         }
     }
 
     fn facts(&self, s: u16) -> Facts {
-        if s >= self.size() {
-            return Facts::NONE;
-        }
-        let n = self.first.size();
-        if s < n {
-            self.first.facts(s)
-        } else {
-            self.second.facts(s - n)
+        match self.side(s) {
+            Some(Side::First(own)) => self.first.facts(own),
+            Some(Side::Second(own)) => self.second.facts(own),
+            None => Facts::NONE,
         }
     }
-}
-
-// The states of both, or none where these are too many.
-fn joint_size(n: u16, p: u16) -> u16
-    requires { (n ≤ 4096) × (p ≤ 4096) }
-    ensures { result ≡ beside_size n p }
-{
-    if n + p <= LIMIT { n + p } else { 0 }
-}
-
-// Where a move of the second model goes, whose states begin at `n`.
-fn shift(n: u16, t: u16) -> u16
-    requires { n ≤ 4096 }
-    ensures { result ≡ shifted n t }
-{
-    if t < NOWHERE { n + t } else { NOWHERE }
 }

@@ -3,9 +3,9 @@ use crate::Model as KripkeModel;
 use crate::facts::Facts;
 
 impl<M: KripkeModel> KripkeModel for &M {
-    ghost means = { λ m. M.Model.means m.now };
+    ghost means = { λ m. M.means m.now };
 
-    ghost formed = { λ m. M.Model.formed m.now };
+    ghost formed = { λ m. M.formed m.now };
 
     fn size(&self) -> u16 {
         (*self).size()

@@ -7,11 +7,13 @@ ghost use Rattle.kripke.specs.Models.{Kripke, WellFormed, TellsAlike, words_at, 
 ghost use Rattle.models.specs.Facts.{fact_words};
 
 use crate::facts::Facts;
+use crate::moves::Moves;
 
 pub mod beside;
 pub mod facts;
 pub mod lent;
 pub mod listed;
+pub mod moves;
 pub mod rested;
 pub mod sun;
 
@@ -21,18 +23,14 @@ pub trait Label {
     /// How many words the kind has.
     const WORDS: u8;
 
-    // the count of words: `WORDS`, for clauses
-    ghost count: { ℕ };
+    // the same, for clauses
+    ghost WORDS: { ℕ };
 
     // the words that hold of a label
     ghost means: { Self → Words };
 
     // at most 64 words, and none at or above the count holds of a label
-    ghost lawful: { Lawful count means };
-
-    /// `WORDS`, with the promise that it is the count.
-    fn word_count() -> u8
-        ensures { result ≡ count };
+    ghost lawful: { Lawful WORDS means };
 
     /// Whether word `a` holds of this label.
     fn holds(&self, a: u8) -> bool
@@ -42,25 +40,14 @@ pub trait Label {
     fn same(&self, other: &Self) -> bool
         ensures { TellsSame result (means self.now) (means other.now) }
     {
-        for a in 0..Self::word_count() {
-            if self.holds(a) != other.holds(a) {
-                return false;
-            }
-        }
-        true
+        (0..Self::WORDS).all(|a| self.holds(a) == other.holds(a))
     }
 
     /// The words that hold of this label, as facts: word `a` is bit `a`.
     fn facts(&self) -> Facts
         ensures { SameWords (fact_words result) (means self.now) }
     {
-        let mut all = Facts::NONE;
-        for a in 0..Self::word_count() {
-            if self.holds(a) {
-                all = all.with(a);
-            }
-        }
-        all
+        Facts::from_fn(Self::WORDS, |a| self.holds(a))
     }
 }
 
@@ -96,27 +83,27 @@ pub trait Model {
     fn alike(&self, s: u16, t: u16) -> bool
         ensures { TellsAlike result (means self.now) s t }
     {
-        if s >= self.size() || t >= self.size() {
-            return false;
-        }
-        for a in 0..self.words() {
-            if self.holds(a, s) != self.holds(a, t) {
-                return false;
-            }
-        }
-        true
+        let n = self.size();
+        s < n && t < n && (0..self.words()).all(|a| self.holds(a, s) == self.holds(a, t))
     }
 
     /// The words that hold at state `s`, as facts: word `a` is bit `a`.
     fn facts(&self, s: u16) -> Facts
         ensures { SameWords (fact_words result) (words_at (means self.now) s) }
     {
-        let mut all = Facts::NONE;
-        for a in 0..self.words() {
-            if self.holds(a, s) {
-                all = all.with(a);
-            }
+        Facts::from_fn(self.words(), |a| self.holds(a, s))
+    }
+
+    /// Where the moves of the row of `s` go, one after the other.
+    final fn moves(&self, s: u16) -> Moves<'_, Self>
+    where
+        Self: Sized,
+        ensures { result ≡ (means self.now).frame.row s }
+    {
+        Moves {
+            model: self,
+            state: s,
+            told: 0,
         }
-        all
     }
 }

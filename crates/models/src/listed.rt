@@ -1,6 +1,7 @@
 //! A model by tables.
-ghost use Rattle.std.specs.Prelude.{◌≡◌};
-ghost use Rattle.kripke.specs.Kinds.{listed, listed_size, table_row, told};
+ghost use Rattle.std.specs.Prelude.{◌≡◌, ◌<◌, ◌≤◌, MatchOption};
+ghost use Rattle.kripke.specs.Kinds.{listed, listed_labels, listed_size, table_row};
+ghost use Rattle.kripke.specs.Words.{SameWords};
 ghost use Rattle.kripke.proofs.Tables.{listed_formed};
 
 use crate::facts::Facts;
@@ -37,29 +38,41 @@ impl<L> Listed<'_, L> {
         }
         let from = self.offsets[s as usize] as usize;
         let to = self.offsets[s as usize + 1] as usize;
-        if from <= to && to <= self.targets.len() && to - from <= LIMIT as usize {
-            &self.targets[from..to]
+        match self.targets.get(from..to) {
+            Some(row) if row.len() <= LIMIT as usize => row,
+            _ => &[],
+        }
+    }
+}
+
+impl<L: Label> Listed<'_, L> {
+    // The label of `s`, if it is a state: it has the words that the model has at `s`.
+    fn label(&self, s: u16) -> Option<&L>
+        ensures { MatchOption result (listed_size self.now.labels.now self.now.offsets.now ≤ s) (λ label. (s < listed_size self.now.labels.now self.now.offsets.now) × SameWords (L.means label.now) ((listed_labels L.WORDS L.means self.now.labels.now).words s)) }
+    {
+        if s < self.state_count() {
+            self.labels.get(s as usize)
         } else {
-            &[]
+            None
         }
     }
 }
 
 impl<L: Label> KripkeModel for Listed<'_, L> {
-    ghost means = { λ m. listed L.Label.count L.Label.means m.labels.now m.offsets.now m.targets.now };
+    ghost means = { λ m. listed L.WORDS L.means m.labels.now m.offsets.now m.targets.now };
 
-    ghost formed = { λ m. listed_formed L.Label.count L.Label.means m.labels.now m.offsets.now m.targets.now L.Label.lawful };
+    ghost formed = { λ m. listed_formed L.WORDS L.means m.labels.now m.offsets.now m.targets.now L.lawful };
 
     fn size(&self) -> u16 {
         self.state_count()
     }
 
     fn words(&self) -> u8 {
-        L::word_count()
+        L::WORDS
     }
 
     fn holds(&self, a: u8, s: u16) -> bool {
-        s < self.state_count() && self.labels[s as usize].holds(a)
+        self.label(s).is_some_and(|label| label.holds(a))
     }
 
     fn degree(&self, s: u16) -> u16 {
@@ -67,29 +80,20 @@ impl<L: Label> KripkeModel for Listed<'_, L> {
     }
 
     fn target(&self, s: u16, k: u16) -> Option<u16> {
-        match self.row(s).get(k as usize) {
-            Some(t) => Some(tell(self.state_count(), *t)),
-            None => None,
-        }
+        let n = self.state_count();
+        self.row(s)
+            .get(k as usize)
+            .map(|t| if *t < n { *t } else { NOWHERE })
     }
 
     fn alike(&self, s: u16, t: u16) -> bool {
-        let n = self.state_count();
-        s < n && t < n && self.labels[s as usize].same(&self.labels[t as usize])
+        match (self.label(s), self.label(t)) {
+            (Some(one), Some(other)) => one.same(other),
+            _ => false,
+        }
     }
 
     fn facts(&self, s: u16) -> Facts {
-        if s < self.state_count() {
-            self.labels[s as usize].facts()
-        } else {
-            Facts::NONE
-        }
+        self.label(s).map_or(Facts::NONE, |label| label.facts())
     }
-}
-
-// A target of a model with `n` states, or `NOWHERE` where that is no state.
-fn tell(n: u16, t: u16) -> u16
-    ensures { result ≡ told n t }
-{
-    if t < n { t } else { NOWHERE }
 }

@@ -12,10 +12,19 @@ pub struct Rested<M> {
     pub below: M,
 }
 
-impl<M: KripkeModel> KripkeModel for Rested<M> {
-    ghost means = { λ m. rested (M.Model.means m.below) };
+impl<M: KripkeModel> Rested<M> {
+    // Whether `s` is a state with an empty row.
+    fn rests(&self, s: u16) -> bool
+        ensures { result ≡ rests (M.means self.now.below).frame s }
+    {
+        s < self.below.size() && self.below.degree(s) == 0
+    }
+}
 
-    ghost formed = { λ m. rested_formed _ (M.Model.formed m.below) };
+impl<M: KripkeModel> KripkeModel for Rested<M> {
+    ghost means = { λ m. rested (M.means m.below) };
+
+    ghost formed = { λ m. rested_formed _ (M.formed m.below) };
 
     fn size(&self) -> u16 {
         self.below.size()
@@ -30,7 +39,7 @@ impl<M: KripkeModel> KripkeModel for Rested<M> {
     }
 
     fn degree(&self, s: u16) -> u16 {
-        if is_at_rest(&self.below, s) {
+        if self.rests(s) {
             1
         } else {
             self.below.degree(s)
@@ -38,12 +47,10 @@ impl<M: KripkeModel> KripkeModel for Rested<M> {
     }
 
     fn target(&self, s: u16, k: u16) -> Option<u16> {
-        if !is_at_rest(&self.below, s) {
-            self.below.target(s, k)
-        } else if k == 0 {
-            Some(s)
+        if self.rests(s) {
+            (k == 0).then_some(s)
         } else {
-            None
+            self.below.target(s, k)
         }
     }
 
@@ -54,11 +61,4 @@ impl<M: KripkeModel> KripkeModel for Rested<M> {
     fn facts(&self, s: u16) -> Facts {
         self.below.facts(s)
     }
-}
-
-// Whether `s` is a state with an empty row.
-fn is_at_rest<M: KripkeModel>(m: &M, s: u16) -> bool
-    ensures { result ≡ rests (M.Model.means m.now).frame s }
-{
-    s < m.size() && m.degree(s) == 0
 }

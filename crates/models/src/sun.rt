@@ -12,7 +12,7 @@ const NAUTICAL: i16 = -720;
 
 const ASTRONOMICAL: i16 = -1080;
 
-#[derive(Clone, Copy)]
+#[derive(Clone, Copy, Debug, PartialEq, Eq)]
 pub struct Sun {
     // of the sun's centre, in arcminutes
     pub altitude: i16,
@@ -25,15 +25,11 @@ pub struct Sun {
 impl Label for Sun {
     const WORDS: u8 = 6;
 
-    ghost count = { 6 };
+    ghost WORDS = { 6 };
 
     ghost means = { sun_words };
 
     ghost lawful = { sun_lawful };
-
-    fn word_count() -> u8 {
-        Self::WORDS
-    }
 
     fn holds(&self, a: u8) -> bool {
         match a {

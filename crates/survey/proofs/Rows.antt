@@ -1,12 +1,12 @@
 -- A row that is read move by move, and a table that is filled row by row.
-use Rattle.std.proofs.Common.{◌≡◌, ℕ, zero, suc, ◌+◌, ◌<◌, ◌≤◌, ◌⊎◌, ◌↔◌, List, length, get_or, set, replicate, None, sym, refl, ◌∙◌, subst, inl, inr, ⊎_elim, arith, below_more}
-use Rattle.std.proofs.lemmas.Bool.{cases_eq}
-use Rattle.std.proofs.lemmas.Bool.Decides.{nat_tests}
-use Rattle.std.proofs.lemmas.List.{get_or-set_same, get_or-set_other}
+use Rattle.std.proofs.Common.{◌≡◌, ℕ, zero, suc, ◌+◌, ◌<◌, ◌≤◌, ◌⊎◌, ◌↔◌, List, length, get_or, set, replicate, sym, refl, ◌∙◌, subst, inl, inr, ⊎_elim, arith, below_more}
+use Rattle.std.proofs.lemmas.Bool.{cases_eq, cases_lt}
+use Rattle.std.proofs.lemmas.List.{get_or_past, get_or-set_same, get_or-set_other}
 use Rattle.std.proofs.ByRecursion.{All-get_or}
-use Rattle.kripke.specs.Models.{Frame, SoundFrame, TotalRow, Lands, nowhere, move}
+use Rattle.kripke.specs.Models.{Frame, SoundFrame, TotalRow, Lands, nowhere}
 use Rattle.sets.specs.declared.Set.{Set}
 use Rattle.sets.specs.Sets.{In, none}
+use Rattle.sets.proofs.Bits.{none_in}
 use Rattle.survey.specs.Gaps.{RowIs}
 
 -- none of the first k moves of a row goes nowhere
@@ -44,21 +44,30 @@ lands_in F sound s k t h e n =
     ⊎_elim (λ l. subst (λ (x : ℕ). x < F.size) e l) (λ q. absurd (n (sym e ∙ q)))
     (All-get_or (Lands F.size) (F.row s) k nowhere h (sound.lands s))
 
-pub no_move : (row : List ℕ) (k : ℕ) → None ≡ move row k → k < length row → ⊥
-no_move row k e h = let z : length row ≤ k = grind (arith, nat_tests) in omega arith
+-- past its end a row has nowhere
+not_past : (row : List ℕ) (j : ℕ) → (get_or row j nowhere ≡ nowhere → ⊥) → j < length row
+not_past row j n = ⊎_elim (λ l. l) (λ past. absurd (n (get_or_past row j nowhere past))) (cases_lt j (length row))
+
+-- with no move seen, no state is in the set
+pub none_seen : (row : List ℕ) (k : ℕ) → Begun row k none → k ≡ 0
+none_seen row k begun = ⊎_elim
+    (λ some. absurd (none_in _ ((begun (get_or row 0 nowhere)).1 (0, some, refl))))
+    (λ e. omega arith)
+    (cases_lt 0 k)
 
 -- a row that is read to its end
-pub row_done : (F : Frame) → SoundFrame F → (s : ℕ) (x : Set) (k : ℕ) → s < F.size → length (F.row s) ≡ k → 0 < k →
+pub row_done : (F : Frame) → SoundFrame F → (s : ℕ) (x : Set) (k : ℕ) → s < F.size → length (F.row s) ≤ k → 0 < k →
     Clear (F.row s) k → Begun (F.row s) k x → TotalRow F.size (F.row s) × RowIs F s x
-row_done F sound s x k h e some clear begun = (
-  record { some = omega arith; lands = λ j l. lands_in F sound s j (get_or (F.row s) j nowhere) l refl (clear j (omega arith)) },
-  λ t. (
-    λ i. let p = (begun t).0 i in
-        let l : p.0 < length (F.row s) = omega (arith, p.1) in
-        (p.0, h, lands_in F sound s p.0 t l p.2 (λ q. clear p.0 p.1 (p.2 ∙ q)), l, p.2),
-    λ mv. (begun t).1 (mv.0, omega (arith, mv.3), mv.4),
-  ),
-)
+row_done F sound s x k h past some clear begun =
+    let inside = λ (j : ℕ) (l : j < k). not_past (F.row s) j (clear j l) in (
+      record { some = omega (arith, inside 0 some); lands = λ j l. lands_in F sound s j (get_or (F.row s) j nowhere) l refl (clear j (omega arith)) },
+      λ t. (
+        λ i. let p = (begun t).0 i in
+            let l : p.0 < length (F.row s) = inside p.0 p.1 in
+            (p.0, h, lands_in F sound s p.0 t l p.2 (λ q. clear p.0 p.1 (p.2 ∙ q)), l, p.2),
+        λ mv. (begun t).1 (mv.0, omega (arith, mv.3), mv.4),
+      ),
+    )
 
 pub filled_more : (F : Frame) (s : ℕ) (x : Set) (rows : List Set) → s < length rows → Filled F s rows → RowIs F s x → Filled F (s + 1) (set rows s x)
 filled_more F s x rows h inv this = record {

@@ -46,21 +46,18 @@ fn row_of<M: Model>(m: &M, s: u16) -> Result<Set, Gap>
     requires below { TotalBelow (M.Model.means m.now).frame s }
     ensures { MatchResult result (λ x. TotalRow (M.Model.means m.now).frame.size ((M.Model.means m.now).frame.row s) × RowIs (M.Model.means m.now).frame s x) (Gaps (M.Model.means m.now).frame) }
 {
-    let degree = m.degree(s);
-    if degree == 0 {
-        return Err(Gap::EmptyRow { state: s });
-    }
     let mut row = Set::NONE;
-    for k in 0..degree {
-        if let Some(t) = m.target(s, k) {
-            if t == NOWHERE {
-                return Err(Gap::Nowhere {
-                    state: s,
-                    number: k,
-                });
-            }
-            row = row.with(t as usize);
+    for (k, t) in m.moves(s).enumerate() {
+        if t == NOWHERE {
+            return Err(Gap::Nowhere {
+                state: s,
+                number: k as u16,
+            });
         }
+        row = row.with(t as usize);
+    }
+    if row == Set::NONE {
+        return Err(Gap::EmptyRow { state: s });
     }
     Ok(row)
 }

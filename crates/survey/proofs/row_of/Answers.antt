@@ -1,8 +1,8 @@
-use Rattle.std.proofs.Common.{◌≡◌, ◌+◌, ◌<◌, length, Some, None, sym, subst, arith, rules}
-use Rattle.kripke.specs.Models.{move}
-use Rattle.kripke.proofs.Rows.{move_some}
-use Rattle.sets.specs.declared.Set.{Set}
-use Rattle.survey.proofs.Rows.{Begun, begun_more, clear_more, lands_in, no_move, row_done}
+use Rattle.std.proofs.Common.{◌≡◌, ◌<◌, [], ◌∷◌, drop, subst, arith, rules}
+use Rattle.std.specs.Iterator.Adapters.{enumerate_source, enumerate_count}
+use Rattle.models.proofs.Remaining.{move_next, move_none}
+use Rattle.sets.specs.Sets.{none}
+use Rattle.survey.proofs.Rows.{Begun, begun_more, clear_more, lands_in, none_seen, row_done}
 use Rattle.survey.proofs.row_of.Goals as goal
 
 pub loop-k-preserved : goal.loop-k-preserved
@@ -10,25 +10,35 @@ loop-k-preserved g c =
     let F = (g.M.Model.means c.args.m.now).frame in
     let sound = (g.M.Model.formed c.args.m.now).frame in
     let row = F.row c.args.s in
-    let k = c.loop-k.k in
-    elim c.match-target.branch [
-      | goal.in-Some+else-t-eq-NOWHERE w ↦
-          let t = w.in-Some.t in
-          let found : Some t ≡ move row k = w.in-Some.ensures in
-          let at = move_some row k t found in
-          let state = lands_in F sound c.args.s k t at.0 at.1 w.if-t-eq-NOWHERE.false in
-          let low : t < 128 = omega (arith, c.requires.sized.1) in (
-            clear_more row k t at.1 w.if-t-eq-NOWHERE.false c.loop-k.invariant.0,
-            subst (λ (y : Set). Begun row (k + 1) y) (sym w.row-is)
-                (begun_more row k t c.loop-k.row w.with-row.result at.1 low c.loop-k.invariant.1 w.with-row.ensures),
-          )
-      | goal.in_default w ↦
-          let none : None ≡ move row k = search rules in
-          let more : k < length row = omega (arith, c.degree-degree.ensures) in
-          absurd (no_move row k none more)
-    ]
+    let k = enumerate_count c.loop-k.k-iterator in
+    let inv = c.loop-k.invariant in
+    let step = c.in-Some.ensures.steps in
+    let left : drop k row ≡ c.in-Some.t ∷ enumerate_source c.next.new.self = cc in
+    let at = move_next row k c.in-Some.t (enumerate_source c.next.new.self) left in
+    let state = lands_in F sound c.args.s k c.in-Some.t at.0 at.1 c.if-t-eq-NOWHERE.false in
+    rw step.2 (
+      at.2,
+      clear_more row k c.in-Some.t at.1 c.if-t-eq-NOWHERE.false inv.1,
+      begun_more row k c.in-Some.t c.loop-k.row c.with-row.result at.1 (omega (arith, c.requires.sized.1)) inv.2 c.with-row.ensures,
+      λ none. absurd (omega arith),
+    )
+
+pub returns-then-eq : goal.returns-then-eq
+returns-then-eq g c =
+    let row = (g.M.Model.means c.args.m.now).frame.row c.args.s in
+    let k = enumerate_count c.loop-k.k-iterator in
+    let inv = c.loop-k.invariant in
+    let empty : c.loop-k.row ≡ none = search rules in
+    let begun : k ≡ 0 = none_seen row k (subst (Begun row k) empty inv.2) in
+    let left : drop k row ≡ [] = cc c.in-None.ensures.steps.0.0 in
+    (c.requires.sized, c.requires.state, c.requires.below, omega (arith, move_none row k left))
 
 pub returns : goal.returns
 returns g c =
-    row_done (g.M.Model.means c.args.m.now).frame (g.M.Model.formed c.args.m.now).frame c.args.s c.loop-k.row c.loop-k.k
-    c.requires.state (omega arith) (omega arith) c.loop-k.invariant.0 c.loop-k.invariant.1
+    let F = (g.M.Model.means c.args.m.now).frame in
+    let row = F.row c.args.s in
+    let k = enumerate_count c.loop-k.k-iterator in
+    let inv = c.loop-k.invariant in
+    let left : drop k row ≡ [] = cc c.in-None.ensures.steps.0.0 in
+    let some : 0 < k = search rules in
+    row_done F (g.M.Model.formed c.args.m.now).frame c.args.s c.loop-k.row k c.requires.state (move_none row k left) some inv.1 inv.2

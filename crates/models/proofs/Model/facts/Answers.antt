@@ -1,17 +1,13 @@
-use Rattle.std.proofs.Common.{◌<◌, ◌≤◌, sym, ap, ◌∙◌, inl, inr, arith}
+use Rattle.std.proofs.Common.{arith, rules}
+use Rattle.std.proofs.lemmas.Grind.{common_steps}
 use Rattle.kripke.specs.Models.{words_at}
-use Rattle.models.specs.Facts.{fact_words}
-use Rattle.models.proofs.Taking.{taken}
+use Rattle.models.proofs.Comparing.{same_below}
 use Rattle.models.proofs.Model.facts.Goals as goal
-use Rattle.models.proofs.Model.facts.Goals.{then-holds, else-holds}
 
-pub loop-a-preserved : goal.loop-a-preserved
-loop-a-preserved g c =
+pub returns : goal.returns
+returns g c =
     let M = g.Self.Model.means c.args.self.now in
-    let few : M.labels.count ≤ 64 = (g.Self.Model.formed c.args.self.now).labels.few_words in
-    let low : c.loop-a.a < 64 = omega (arith, c.words-a-end.ensures) in
-    taken (words_at M c.args.s) (fact_words c.loop-a.all) (fact_words c.if-holds.all) c.loop-a.a low c.loop-a.invariant
-    (elim c.if-holds.branch [
-      | then-holds w ↦ inl (sym c.holds.ensures ∙ w.if-holds.true, λ k. ap (λ f. fact_words f k) w.all-is ∙ w.with-all.ensures k)
-      | else-holds w ↦ inr (sym c.holds.ensures ∙ w.if-holds.false, λ k. ap (λ f. fact_words f k) w.all-is)
-    ])
+    let sound = (g.Self.Model.formed c.args.self.now).labels in
+    same_below M.labels.count _ (words_at M c.args.s) (λ a past. c.from_fn.ensures.past a (omega arith)) (λ a past. grind (arith, common_steps, sound.within)) (λ a l.
+    let told = c.from_fn.ensures.below a (omega arith) (omega (arith, sound.few_words)) in
+    search rules)

@@ -1,8 +1,0 @@
-use Rattle.std.proofs.Common.{◌≡◌, ℕ, ◌&&◌, ltb}
-use Rattle.kripke.specs.Models.{words_at}
-use Rattle.models.specs.Facts.{fact_words}
-use Rattle.models.proofs.Model.facts.Given as goal
-
--- the words below a are taken over, and no other
-abbrev pub invariant-loop-a : goal.invariant-loop-a
-invariant-loop-a g l = (k : ℕ) → fact_words l.all k ≡ (ltb k l.a && words_at (g.Self.Model.means l.self) l.s k)
