@@ -89,9 +89,8 @@ fn mark(set: Set, n: usize, marks: &mut [u8])
     ensures states { (s : ℕ) → s < n → slice_index marks.new s ≡ bit set.bits s }
     ensures rest { (s : ℕ) → n ≤ s → slice_index marks.new s ≡ slice_index marks.old s }
 {
-    // Kept: by index, since after a loop over `iter_mut` a proof knows nothing of what the elements are.
-    for s in 0..n {
-        marks[s] = u8::from(set.has(s));
+    for (s, mark) in marks[..n].iter_mut().enumerate() {
+        *mark = u8::from(set.has(s));
     }
 }
 
