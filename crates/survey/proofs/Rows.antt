@@ -1,13 +1,13 @@
 -- A row that is read move by move, and a table that is filled row by row.
-use Rattle.std.proofs.Common.{◌≡◌, ℕ, zero, suc, ◌+◌, ◌<◌, ◌≤◌, ◌⊎◌, ◌↔◌, List, length, get_or, set, replicate, sym, refl, ◌∙◌, subst, inl, inr, ⊎_elim, arith, below_more}
+use Rattle.std.proofs.Common.{◌≡◌, ℕ, zero, suc, ◌+◌, ◌-◌, ◌++◌, ◌<◌, ◌≤◌, ◌⊎◌, ◌↔◌, List, length, get_or, drop, replicate, sym, refl, ◌∙◌, subst, inl, inr, ⊎_elim, arith, below_more}
 use Rattle.std.proofs.lemmas.Bool.{cases_eq, cases_lt}
-use Rattle.std.proofs.lemmas.List.{get_or_past, get_or-set_same, get_or-set_other}
+use Rattle.std.proofs.lemmas.List.{get_or_past, get_or_append_left, get_or-append_right, get_or-drop}
 use Rattle.std.proofs.ByRecursion.{All-get_or}
 use Rattle.kripke.specs.Models.{Frame, SoundFrame, TotalRow, Lands, nowhere}
 use Rattle.sets.specs.declared.Set.{Set}
 use Rattle.sets.specs.Sets.{In, none}
 use Rattle.sets.proofs.Bits.{none_in}
-use Rattle.survey.specs.Gaps.{RowIs}
+use Rattle.survey.specs.Gaps.{RowIs, Linked}
 
 -- none of the first k moves of a row goes nowhere
 abbrev pub Clear : List ℕ → ℕ → Type 0
@@ -16,11 +16,6 @@ Clear row k = (j : ℕ) → j < k → get_or row j nowhere ≡ nowhere → ⊥
 -- x is the set of the targets of the first k moves of a row
 abbrev pub Begun : List ℕ → ℕ → Set → Type 0
 Begun row k x = (t : ℕ) → In x t ↔ ((j : ℕ) × (j < k) × (get_or row j nowhere ≡ t))
-
--- the table has the moves of each state below n, and nothing after
-pub record Filled (F : Frame) (n : ℕ) (rows : List Set) : Type 0 where
-  pub states : (s : ℕ) → s < n → RowIs F s (get_or rows s none)
-  pub others : (s : ℕ) → n ≤ s → get_or rows s none ≡ none
 
 pub begun_more : (row : List ℕ) (k t : ℕ) (x y : Set) → get_or row k nowhere ≡ t → t < 128 → Begun row k x →
     ((j : ℕ) → In y j ↔ (In x j ⊎ ((j ≡ t) × (t < 128)))) → Begun row (k + 1) y
@@ -69,20 +64,16 @@ row_done F sound s x k h past some clear begun =
       ),
     )
 
-pub filled_more : (F : Frame) (s : ℕ) (x : Set) (rows : List Set) → s < length rows → Filled F s rows → RowIs F s x → Filled F (s + 1) (set rows s x)
-filled_more F s x rows h inv this = record {
-  states =
-      below_more (λ j. RowIs F j (get_or (set rows s x) j none)) s
-      (λ j l. subst (λ (y : Set). RowIs F j y) (sym (get_or-set_other rows s j x none (λ e. omega arith))) (inv.states j l))
-      (subst (λ (y : Set). RowIs F s y) (sym (get_or-set_same rows s x none h)) this);
-  others = λ j l. get_or-set_other rows s j x none (λ e. omega arith) ∙ inv.others j (omega arith);
-}
-
 -- a table of empty sets
 none-at : (n s : ℕ) → get_or (replicate n none) s none ≡ none
 none-at zero s = refl
 none-at (suc n) zero = refl
 none-at (suc n) (suc s) = none-at n s
 
-pub filled_none : (F : Frame) (n : ℕ) → Filled F 0 (replicate n none)
-filled_none F n = record { states = λ s l. absurd (omega arith); others = λ s l. none-at n s }
+-- the rows of all states, in a table that has nothing behind them
+pub linked_front : (F : Frame) (xs : List Set) (n s : ℕ) → length xs ≡ n → s ≡ F.size → n ≡ F.size → ((j : ℕ) → j < s → RowIs F j (get_or xs j none)) →
+    Linked F (xs ++ drop n (replicate 128 none))
+linked_front F xs n s long same all each = record {
+  states = λ j l. subst (λ (y : Set). RowIs F j y) (sym (get_or_append_left xs _ none j (omega arith))) (each j (omega arith));
+  others = λ j l. get_or-append_right xs _ n j none long (omega arith) ∙ get_or-drop n (replicate 128 none) (j - n) none ∙ none-at 128 (n + (j - n));
+}

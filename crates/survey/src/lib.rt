@@ -68,8 +68,8 @@ pub fn rows_of<M: Model>(m: &M) -> Result<Rows, Gap>
 {
     let n = count_states(m)?;
     let mut rows = [Set::NONE; 128];
-    for s in 0..n {
-        rows[s as usize] = row_of(m, s)?;
+    for (s, row) in rows[..n as usize].iter_mut().enumerate() {
+        *row = row_of(m, s as u16)?;
     }
     Ok(rows)
 }
