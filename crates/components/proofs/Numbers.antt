@@ -1,6 +1,6 @@
 -- Numbers by first member, given to one state after the other.
-use Rattle.std.proofs.Common.{◌≡◌, ℕ, ◌+◌, ◌<◌, ◌≤◌, ◌⊎◌, ◌↔◌, List, length, get_or, set, replicate, Some, None, Option, sym, refl, ap, ◌∙◌, inl, inr, ⊎_elim, arith}
-use Rattle.std.proofs.lemmas.List.{get_or-set_same, get_or-set_other, get_or-replicate, get_or_past, length-replicate, length-set}
+use Rattle.std.proofs.Common.{◌≡◌, ℕ, ◌+◌, ◌<◌, ◌≤◌, ◌⊎◌, ◌↔◌, List, length, get_or, set, replicate, take, Some, None, Option, sym, refl, ap, ◌∙◌, inl, inr, ⊎_elim, arith}
+use Rattle.std.proofs.lemmas.List.{get_or-set_same, get_or-set_other, get_or-replicate, get_or_past, get_or-take, length-replicate, length-set, length-take}
 use Rattle.std.proofs.lemmas.Bool.{cases_eq, cases_lt}
 use Rattle.sets.specs.declared.Set.{Set}
 use Rattle.sets.specs.Sets.{In, none}
@@ -9,7 +9,7 @@ use Rattle.kripke.proofs.Numbering.{number-none, number_old, number_new}
 use Rattle.components.specs.Walks.{spot}
 use Rattle.components.specs.Numbers.{number, Together, Twice, Numbered}
 use Rattle.components.specs.declared.marks.Place.{Place}
-use Rattle.components.specs.declared.marks.Place.TheVariants.{Done}
+use Rattle.components.specs.declared.marks.Place.TheVariants.{Unseen, Done}
 
 -- the first s states have their numbers, and given has the number of each component that has one
 pub record Giving (place : List Place) (s : ℕ) (part₀ part : List ℕ) (given : List (Option ℕ)) (count : ℕ) (many : Set) : Type 0 where
@@ -27,6 +27,16 @@ some_same e = cc
 
 done_same : {p : Place} {c d : ℕ} → p ≡ Done c → p ≡ Done d → c ≡ d
 done_same p q = cc
+
+-- the component of a state that the loop meets, one of those that are done
+pub done_at : (place : List Place) (n s c : ℕ) → ((t : ℕ) → t < n → (d : ℕ) × (spot place t ≡ Done d) × (d < 128)) →
+    s < length (take n place) → get_or (take n place) s Unseen ≡ Done c → (spot place s ≡ Done c) × (c < 128)
+done_at place n s c done there is =
+    let l : s < n = omega (arith, length-take n place) in
+    let at : spot place s ≡ Done c = sym (get_or-take n place s Unseen l) ∙ is in
+    let d = done s l in
+    let same : d.0 ≡ c = done_same d.1 at in
+    (at, omega (arith, d.2))
 
 abbrev ungiven : Option ℕ
 ungiven = None

@@ -1,10 +1,12 @@
 -- A number is taken off the stack and put into a component.
 use Rattle.std.proofs.Common.{◌≡◌, ℕ, ◌<◌, ◌≤◌, List, [], ◌∷◌, length, set, sym, refl, ap, ◌∙◌, subst, ⊎_elim, arith}
 use Rattle.std.proofs.lemmas.Bool.{cases_eq, cases_lt}
-use Rattle.std.proofs.lemmas.List.{get_or-set_same, get_or-set_other, get_or_past}
+use Rattle.std.proofs.lemmas.List.{get_or-set_same, get_or-set_other, get_or_past, length-set}
+use Rattle.components.specs.Held.{Held, pushed}
 use Rattle.components.specs.Walks.{Placed, Listed, Turned, spot}
 use Rattle.components.specs.declared.marks.Place.{Place}
 use Rattle.components.specs.declared.marks.Place.TheVariants.{Unseen, Open, Done}
+use Rattle.components.specs.declared.search.Search.{Search}
 use Rattle.components.proofs.Laws.{at-below, unseen_open, open_done, open_open}
 
 -- what the loop that takes them off keeps
@@ -72,11 +74,22 @@ module _ (place₀ place : List Place) (x : ℕ) (nums : List ℕ) (c : ℕ) (h 
     };
   }
 
--- the same, as the code meets it
-pub took : (place₀ place place' : List Place) (all : List ℕ) (c d x : ℕ) (nums : List ℕ) → all ≡ x ∷ nums → place' ≡ set place x (Done d) → d ≡ c → Taken place₀ place all c → Taken place₀ place' nums c
-took place₀ place place' all c d x nums e put same h =
-    subst (λ p. Taken place₀ p nums c) (sym (put ∙ ap (λ n. set place x (Done n)) same))
-    (take_more place₀ place x nums c (subst (λ l. Taken place₀ place l c) e h))
+-- what the loop keeps of the whole search
+pub record Takes (S₀ S : Search) : Type 0 where
+  pub taken : Taken S₀.place S.place S.numbers.held S₀.count
+  pub wide : length S.place ≡ length S₀.place
+  pub rest : S ≡ record S₀ { place = S.place; numbers = record S₀.numbers { held = S.numbers.held } }
 
-pub top_within : (place₀ place : List Place) (all : List ℕ) (c x : ℕ) (nums : List ℕ) → all ≡ x ∷ nums → Taken place₀ place all c → x < length place
-top_within place₀ place all c x nums e h = let t : Taken place₀ place (x ∷ nums) c = subst (λ l. Taken place₀ place l c) e h in open_within place x (length nums) t.stacked.placed.0
+pub takes_none : (S : Search) → Listed (spot S.place) S.numbers.held → Takes S S
+takes_none S at = record { taken = take_none S.place S.numbers.held S.count at; wide = refl; rest = refl }
+
+pub takes_more : (S₀ S : Search) (x : ℕ) (numbers : Held ℕ) → S.numbers ≡ pushed numbers x → Takes S₀ S → Takes S₀ (record S { place = set S.place x (Done S.count); numbers = numbers })
+takes_more S₀ S x numbers off h =
+    let count : S.count ≡ S₀.count = ap (λ (T : Search). T.count) h.rest in
+    let walk : S.walk ≡ S₀.walk = ap (λ (T : Search). T.walk) h.rest in
+    let room : numbers.room ≡ S₀.numbers.room = sym (ap (λ (n : Held ℕ). n.room) off) ∙ ap (λ (T : Search). T.numbers.room) h.rest in
+    record {
+      taken = rw count (take_more S₀.place S.place x numbers.held S₀.count (subst (λ (n : Held ℕ). Taken S₀.place S.place n.held S₀.count) off h.taken));
+      wide = length-set S.place x (Done S.count) ∙ h.wide;
+      rest = rw (count, walk, room) refl;
+    }

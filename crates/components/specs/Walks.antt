@@ -1,11 +1,13 @@
 -- What the component walk keeps true of its places, its two stacks and its count.
-use Rattle.std.specs.Prelude.{◌≡◌, ℕ, zero, suc, ◌+◌, ◌-◌, ◌*◌, ◌<◌, ◌≤◌, min, ◌⊎◌, List, [], ◌∷◌, length, drop, slice_index_or, slice_set}
+use Rattle.std.specs.Prelude.{◌≡◌, ℕ, zero, suc, ◌+◌, ◌-◌, ◌*◌, ◌<◌, ◌≤◌, min, ◌⊎◌, List, [], ◌∷◌, length, replicate, slice_index_or, slice_set}
 use Rattle.std.specs.List.{AllByRecursion}
 use Rattle.kripke.specs.Models.{Frame}
+use Rattle.components.specs.Held.{pushed, popped, replaced}
 use Rattle.components.specs.Reach.{Leads, target}
 use Rattle.components.specs.declared.marks.Place.{Place}
 use Rattle.components.specs.declared.marks.Place.TheVariants.{Unseen, Open, Done}
 use Rattle.components.specs.declared.marks.Walk.{Walk}
+use Rattle.components.specs.declared.search.Search.{Search}
 
 -- of some entry
 abbrev pub Any : {X : Type 0} → (X → Type 0) → List X → Type 0
@@ -102,19 +104,48 @@ pub record Turned (P P' : ℕ → Place) (a c : ℕ) : Type 0 where
   pub done : (s d : ℕ) → P s ≡ Done d → P' s ≡ Done d
   pub unseen : (s : ℕ) → P s ≡ Unseen → P' s ≡ Unseen
 
--- what a move from the top of the walk to t alters, where t stands at a place
-abbrev pub Follows : Place → (place place' : List Place) (nums nums' : List ℕ) (ws ws' : List Walk) (w : Walk) (t : ℕ) → Type 0
-Follows Unseen place place' nums nums' ws ws' w t = (place' ≡ slice_set place t (Open (length nums))) × (nums' ≡ t ∷ nums) × (ws' ≡ fresh t (length nums) ∷ marked w w.low ∷ drop 1 ws)
-Follows (Open q) place place' nums nums' ws ws' w t = (place' ≡ place) × (nums' ≡ nums) × (ws' ≡ marked w (min w.low q) ∷ drop 1 ws)
-Follows (Done d) place place' nums nums' ws ws' w t = (place' ≡ place) × (nums' ≡ nums) × (ws' ≡ marked w w.low ∷ drop 1 ws)
+-- what stands from place a up is a component, and nothing else is altered
+pub record Shuts (S S' : Search) (a : ℕ) : Type 0 where
+  pub turned : Turned (spot S.place) (spot S'.place) a S.count
+  pub stacked : Listed (spot S'.place) S'.numbers.held
+  pub len : length S'.numbers.held ≡ a
+  pub wide : length S'.place ≡ length S.place
+  pub rest : S' ≡ record S { place = S'.place; count = S.count + 1; numbers = record S.numbers { held = S'.numbers.held } }
 
--- what stands from place a up is a component, and the top of the walk is off
-pub record Shuts (place place' : List Place) (c c' : ℕ) (nums' : List ℕ) (ws ws' : List Walk) (a : ℕ) : Type 0 where
-  pub turned : Turned (spot place) (spot place') a c
-  pub count : c' ≡ c + 1
-  pub stacked : Listed (spot place') nums'
-  pub len : length nums' ≡ a
-  pub walk : ws' ≡ drop 1 ws
+-- a search that has met nothing, with room for so many numbers and walk records
+abbrev pub blank : (numbers walks : ℕ) → Search
+blank numbers walks = record {
+  place = replicate 128 Unseen;
+  count = 0;
+  numbers = record { held = []; room = numbers };
+  walk = record { held = []; room = walks };
+}
+
+-- a search with a state put onto both stacks
+abbrev pub entered : Search → ℕ → Search
+entered S s = record S {
+  place = slice_set S.place s (Open (length S.numbers.held));
+  numbers = pushed S.numbers s;
+  walk = pushed S.walk (fresh s (length S.numbers.held));
+}
+
+-- a search with another top of its walk
+abbrev pub topped : Search → Walk → Search
+topped S w = record S { walk = replaced S.walk w }
+
+-- a search with the top off its walk
+abbrev pub without_top : Search → Search
+without_top S = record S { walk = popped S.walk }
+
+-- a search with a low mark handed on to the top of its walk
+abbrev pub lowered : Search → ℕ → Search
+lowered S l = record S { walk = record S.walk { held = lowest_top S.walk.held l } }
+
+-- a search after a move from the top of its walk to t, where t stands at a place
+abbrev pub followed : Place → Search → Walk → ℕ → Search
+followed Unseen S w t = entered (topped S (marked w w.low)) t
+followed (Open q) S w t = topped S (marked w (min w.low q))
+followed (Done d) S w t = topped S (marked w w.low)
 
 -- how many of the first n states are not met
 abbrev pub unmet : Place → ℕ
@@ -142,15 +173,16 @@ pub record Fit (n : ℕ) (P : ℕ → Place) (nums : List ℕ) (ws : List Walk) 
   pub walks : unseen n P + length ws ≤ n
 
 -- the search goes well
-pub record Going (G : Frame) (place : List Place) (c : ℕ) (nums : List ℕ) (ws : List Walk) : Type 0 where
-  pub keeps : Inv G.row (spot place) nums ws c
-  pub fits : Fit G.size (spot place) nums ws c
+pub record Going (G : Frame) (S : Search) : Type 0 where
+  pub keeps : Inv G.row (spot S.place) S.numbers.held S.walk.held S.count
+  pub fits : Fit G.size (spot S.place) S.numbers.held S.walk.held S.count
+  pub rooms : (G.size ≤ S.numbers.room) × (G.size ≤ S.walk.room)
+  pub few : G.size ≤ 128
+  pub wide : G.size ≤ length S.place
 
--- a step leads from one place table and walk to what is given last: the search goes on well, has less left to do, and no state is forgotten
-pub record Next (G : Frame) (place : List Place) (ws : List Walk) (place' : List Place) (c' : ℕ) (nums' : List ℕ) (ws' : List Walk) : Type 0 where
-  pub going : Going G place' c' nums' ws'
-  pub falls : left_over G (spot place') ws' < left_over G (spot place) ws
-  pub seen : (s : ℕ) → spot place' s ≡ Unseen → spot place s ≡ Unseen
+-- it goes well, and no walk is on
+abbrev pub Resting : Frame → Search → Type 0
+Resting G S = Going G S × (S.walk.held ≡ [])
 
 -- the search is over: each state has one of c numbers, each number is some state's, and two states have the same
 -- exactly where moves lead both ways

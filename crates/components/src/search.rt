@@ -1,79 +1,138 @@
-//! The search, over a model.
-ghost use Rattle.std.specs.Prelude.{◌≡◌, ℕ, ◌<◌, ◌≤◌, [], ◌∷◌, length, drop, ◌≢◌};
-ghost use Rattle.components.specs.Held.{held, room};
+//! The search: one depth-first walk with two stacks in lent memory.
+ghost use Rattle.std.specs.Prelude.{◌≡◌, ℕ, ◌<◌, ◌≤◌, [], ◌∷◌, length, drop, ◌≢◌, replicate};
 ghost use Rattle.components.specs.Inner.{inner};
-ghost use Rattle.components.specs.Walks.{spot, Going, Next, Searched};
+ghost use Rattle.components.specs.Walks.{spot, Listed, Resting, Searched, Shuts, blank, entered, without_top, lowered, followed};
 ghost use Rattle.components.specs.declared.marks.Place.TheVariants.{Unseen};
 
-use crate::marks::{Marks, Place, Walk};
+use crate::marks::{Place, Walk};
 use crate::moves::inner_move;
 use crate::stack::Stack;
 use models::Model;
 
-impl Marks {
+// Where each state stands, how many components are closed, and the stacks: the states that are open, in the order that
+// they were met in, and those of them that the walk still looks on from.
+#[derive(Drop)]
+pub struct Search<'a> {
+    pub place: [Place; 128],
+    pub count: u8,
+    numbers: Stack<'a, u16>,
+    walk: Stack<'a, Walk>,
+}
+
+impl<'a> Search<'a> {
+    // Nothing is met yet.
+    pub fn new(walks: &'a mut [Walk], states: &'a mut [u16]) -> Search<'a>
+        ensures { result ≡ blank (length states.old) (length walks.old) }
+    {
+        Search {
+            place: [Place::Unseen; 128],
+            count: 0,
+            numbers: Stack::new(states),
+            walk: Stack::new(walks),
+        }
+    }
+
     // Walks from every state that is not met yet.
-    pub fn walk_all<M: Model>(
-        &mut self,
-        model: &M,
-        walk: &mut Stack<'_, Walk>,
-        numbers: &mut Stack<'_, u16>,
-        size: u16,
-    )
-        requires size { (size ≡ (inner (M.Model.means model.now)).size) × (size ≤ 128) }
-        requires rooms { (size ≤ room numbers.old) × (size ≤ room walk.old) }
-        requires going { Going (inner (M.Model.means model.now)) self.old.place self.old.count (held numbers.old) (held walk.old) }
-        requires over { held walk.old ≡ [] }
+    pub fn walk_all<M: Model>(&mut self, model: &M, size: u16)
+        requires size { size ≡ (inner (M.Model.means model.now)).size }
+        requires resting { Resting (inner (M.Model.means model.now)) self.old }
         ensures { Searched (inner (M.Model.means model.now)) self.new.place self.new.count }
     {
         for root in 0..size {
             if let Place::Unseen = self.place[root as usize] {
-                self.explore(model, walk, numbers, root);
+                self.explore(model, root);
             }
         }
     }
 
     // Walks from `root` until the walk is over.
-    fn explore<M: Model>(
-        &mut self,
-        model: &M,
-        walk: &mut Stack<'_, Walk>,
-        numbers: &mut Stack<'_, u16>,
-        root: u16,
-    )
-        requires size { (inner (M.Model.means model.now)).size ≤ 128 }
-        requires rooms { ((inner (M.Model.means model.now)).size ≤ room numbers.old) × ((inner (M.Model.means model.now)).size ≤ room walk.old) }
-        requires going { Going (inner (M.Model.means model.now)) self.old.place self.old.count (held numbers.old) (held walk.old) }
-        requires over { held walk.old ≡ [] }
+    fn explore<M: Model>(&mut self, model: &M, root: u16)
+        requires resting { Resting (inner (M.Model.means model.now)) self.old }
         requires root { (root < (inner (M.Model.means model.now)).size) × (spot self.old.place root ≡ Unseen) }
-        ensures going { Going (inner (M.Model.means model.now)) self.new.place self.new.count (held numbers.new) (held walk.new) }
-        ensures over { held walk.new ≡ [] }
+        ensures resting { Resting (inner (M.Model.means model.now)) self.new }
         ensures seen { (s : ℕ) → spot self.new.place s ≡ Unseen → (spot self.old.place s ≡ Unseen) × (s ≢ root) }
-        ensures rooms { (room numbers.new ≡ room numbers.old) × (room walk.new ≡ room walk.old) }
     {
-        self.enter(walk, numbers, root);
-        while let Some(top) = walk.top() {
-            self.step(model, walk, numbers, top);
+        self.enter(root);
+        while let Some(top) = self.walk.top() {
+            match inner_move(model, top.state, top.next) {
+                Some(t) => self.follow(top, t),
+                None => self.leave(top),
+            }
         }
     }
 
-    // One step of the walk, from its top.
-    fn step<M: Model>(
-        &mut self,
-        model: &M,
-        walk: &mut Stack<'_, Walk>,
-        numbers: &mut Stack<'_, u16>,
-        top: Walk,
-    )
-        requires size { (inner (M.Model.means model.now)).size ≤ 128 }
-        requires rooms { ((inner (M.Model.means model.now)).size ≤ room numbers.old) × ((inner (M.Model.means model.now)).size ≤ room walk.old) }
-        requires going { Going (inner (M.Model.means model.now)) self.old.place self.old.count (held numbers.old) (held walk.old) }
-        requires top { held walk.old ≡ top ∷ drop 1 (held walk.old) }
-        ensures next { Next (inner (M.Model.means model.now)) self.old.place (held walk.old) self.new.place self.new.count (held numbers.new) (held walk.new) }
-        ensures rooms { (room numbers.new ≡ room numbers.old) × (room walk.new ≡ room walk.old) }
+    // Puts a state that is met for the first time onto both stacks.
+    fn enter(&mut self, s: u16)
+        requires state { s < 128 }
+        requires few { length self.old.numbers.held < 128 }
+        requires rooms { (length self.old.numbers.held < self.old.numbers.room) × (length self.old.walk.held < self.old.walk.room) }
+        ensures { self.new ≡ entered self.old s }
     {
-        match inner_move(model, top.state, top.next) {
-            Some(t) => self.follow(walk, numbers, top, t),
-            None => self.leave(walk, numbers, top),
+        let at = self.numbers.len() as u8;
+        self.numbers.push(s).unwrap();
+        self.walk.push(Walk { state: s, at, next: 0, low: at }).unwrap();
+        self.place[s as usize] = Place::Open(at);
+    }
+
+    // Looks at the next move of the walk's top, which goes to `t`.
+    fn follow(&mut self, top: Walk, t: u16)
+        requires state { t < 128 }
+        requires short { top.next < 4096 }
+        requires space { spot self.old.place t ≡ Unseen → (length self.old.numbers.held < 128) × (length self.old.numbers.held < self.old.numbers.room) × (length self.old.walk.held < self.old.walk.room) }
+        requires top { self.old.walk.held ≡ top ∷ drop 1 self.old.walk.held }
+        ensures { self.new ≡ followed (spot self.old.place t) self.old top t }
+    {
+        let next = top.next + 1;
+        match self.place[t as usize] {
+            Place::Unseen => {
+                self.walk.replace(Walk { next, ..top }).unwrap();
+                self.enter(t);
+            }
+            Place::Open(at) => {
+                let low = top.low.min(at);
+                self.walk.replace(Walk { next, low, ..top }).unwrap();
+            }
+            Place::Done(_) => self.walk.replace(Walk { next, ..top }).unwrap(),
+        }
+    }
+
+    // Takes the top off the walk, once all its moves are looked at.
+    fn leave(&mut self, top: Walk)
+        requires many { self.old.count < 128 }
+        requires within { top.at ≤ length self.old.numbers.held }
+        requires stacked { Listed (spot self.old.place) self.old.numbers.held }
+        requires top { self.old.walk.held ≡ top ∷ drop 1 self.old.walk.held }
+        ensures shut { top.low ≡ top.at → Shuts (without_top self.old) self.new top.at }
+        ensures passed { top.low ≢ top.at → self.new ≡ lowered (without_top self.old) top.low }
+    {
+        self.walk.pop();
+        if top.low == top.at {
+            self.close(top.at);
+        } else {
+            self.lower_top(top.low);
+        }
+    }
+
+    // Turns what stands on the number stack from place `at` up into a component.
+    fn close(&mut self, at: u8)
+        requires many { self.old.count < 128 }
+        requires within { at ≤ length self.old.numbers.held }
+        requires stacked { Listed (spot self.old.place) self.old.numbers.held }
+        ensures { Shuts self.old self.new at }
+    {
+        while let Some(s) = self.numbers.pop_above(at as usize) {
+            self.place[s as usize] = Place::Done(self.count);
+        }
+        self.count += 1;
+    }
+
+    // Hands a low mark on to the top of the walk.
+    fn lower_top(&mut self, low: u8)
+        ensures { self.new ≡ lowered self.old low }
+    {
+        if let Some(parent) = self.walk.top() {
+            let low = parent.low.min(low);
+            self.walk.replace(Walk { low, ..parent }).unwrap();
         }
     }
 }
