@@ -10,10 +10,6 @@ pub record Held (X : Type 0) : Type 0 where
 abbrev pub pushed : {X : Type 0} → Held X → X → Held X
 pushed s x = record s { held = x ∷ s.held }
 
--- one entry less
-abbrev pub popped : {X : Type 0} → Held X → Held X
-popped s = record s { held = drop 1 s.held }
-
 -- another newest entry
 abbrev pub replaced : {X : Type 0} → Held X → X → Held X
 replaced s x = record s { held = x ∷ drop 1 s.held }

@@ -2,7 +2,7 @@
 use Rattle.std.specs.Prelude.{◌≡◌, ℕ, zero, suc, ◌+◌, ◌-◌, ◌*◌, ◌<◌, ◌≤◌, min, ◌⊎◌, List, [], ◌∷◌, length, replicate, slice_index_or, slice_set}
 use Rattle.std.specs.List.{AllByRecursion}
 use Rattle.kripke.specs.Models.{Frame}
-use Rattle.components.specs.Held.{pushed, popped, replaced}
+use Rattle.components.specs.Held.{pushed}
 use Rattle.components.specs.Reach.{Leads, target}
 use Rattle.components.specs.declared.marks.Place.{Place}
 use Rattle.components.specs.declared.marks.Place.TheVariants.{Unseen, Open, Done}
@@ -121,6 +121,10 @@ blank numbers walks = record {
   walk = record { held = []; room = walks };
 }
 
+-- a search with w on its walk
+abbrev pub walking : Search → Walk → Search
+walking S w = record S { walk = pushed S.walk w }
+
 -- a search with a state put onto both stacks
 abbrev pub entered : Search → ℕ → Search
 entered S s = record S {
@@ -129,23 +133,19 @@ entered S s = record S {
   walk = pushed S.walk (fresh s (length S.numbers.held));
 }
 
--- a search with another top of its walk
-abbrev pub topped : Search → Walk → Search
-topped S w = record S { walk = replaced S.walk w }
+-- there is room for a state on both stacks
+abbrev pub HasRoom : Search → Type 0
+HasRoom S = (length S.numbers.held < 128) × (length S.numbers.held < S.numbers.room) × (length S.walk.held < S.walk.room)
 
--- a search with the top off its walk
-abbrev pub without_top : Search → Search
-without_top S = record S { walk = popped S.walk }
+-- a search after a move from w to t, where t stands at a place
+abbrev pub followed : Place → Search → Walk → ℕ → Search
+followed Unseen S w t = entered (walking S (marked w w.low)) t
+followed (Open q) S w t = walking S (marked w (min w.low q))
+followed (Done d) S w t = walking S (marked w w.low)
 
 -- a search with a low mark handed on to the top of its walk
 abbrev pub lowered : Search → ℕ → Search
 lowered S l = record S { walk = record S.walk { held = lowest_top S.walk.held l } }
-
--- a search after a move from the top of its walk to t, where t stands at a place
-abbrev pub followed : Place → Search → Walk → ℕ → Search
-followed Unseen S w t = entered (topped S (marked w w.low)) t
-followed (Open q) S w t = topped S (marked w (min w.low q))
-followed (Done d) S w t = topped S (marked w w.low)
 
 -- how many of the first n states are not met
 abbrev pub unmet : Place → ℕ

@@ -1,7 +1,7 @@
 //! The search: one depth-first walk with two stacks in lent memory.
-ghost use Rattle.std.specs.Prelude.{◌≡◌, ℕ, ◌<◌, ◌≤◌, [], ◌∷◌, length, drop, ◌≢◌, replicate};
+ghost use Rattle.std.specs.Prelude.{◌≡◌, ℕ, ◌<◌, ◌≤◌, length, ◌≢◌};
 ghost use Rattle.components.specs.Inner.{inner};
-ghost use Rattle.components.specs.Walks.{spot, Listed, Resting, Searched, Shuts, blank, entered, without_top, lowered, followed};
+ghost use Rattle.components.specs.Walks.{spot, Listed, Resting, Searched, HasRoom, Shuts, blank, walking, entered, followed, lowered};
 ghost use Rattle.components.specs.declared.marks.Place.TheVariants.{Unseen};
 
 use crate::marks::{Place, Walk};
@@ -53,7 +53,7 @@ impl<'a> Search<'a> {
         ensures seen { (s : ℕ) → spot self.new.place s ≡ Unseen → (spot self.old.place s ≡ Unseen) × (s ≢ root) }
     {
         self.enter(root);
-        while let Some(top) = self.walk.top() {
+        while let Some(top) = self.walk.pop() {
             match inner_move(model, top.state, top.next) {
                 Some(t) => self.follow(top, t),
                 None => self.leave(top),
@@ -64,48 +64,52 @@ impl<'a> Search<'a> {
     // Puts a state that is met for the first time onto both stacks.
     fn enter(&mut self, s: u16)
         requires state { s < 128 }
-        requires few { length self.old.numbers.held < 128 }
-        requires rooms { (length self.old.numbers.held < self.old.numbers.room) × (length self.old.walk.held < self.old.walk.room) }
+        requires room { HasRoom self.old }
         ensures { self.new ≡ entered self.old s }
     {
         let at = self.numbers.len() as u8;
         self.numbers.push(s).unwrap();
-        self.walk.push(Walk { state: s, at, next: 0, low: at }).unwrap();
+        self.walk
+            .push(Walk {
+                state: s,
+                at,
+                next: 0,
+                low: at,
+            })
+            .unwrap();
         self.place[s as usize] = Place::Open(at);
     }
 
-    // Looks at the next move of the walk's top, which goes to `t`.
+    // Looks at the next move of what was the walk's top, which goes to `t`, and puts it back.
     fn follow(&mut self, top: Walk, t: u16)
         requires state { t < 128 }
         requires short { top.next < 4096 }
-        requires space { spot self.old.place t ≡ Unseen → (length self.old.numbers.held < 128) × (length self.old.numbers.held < self.old.numbers.room) × (length self.old.walk.held < self.old.walk.room) }
-        requires top { self.old.walk.held ≡ top ∷ drop 1 self.old.walk.held }
+        requires back { length self.old.walk.held < self.old.walk.room }
+        requires room { spot self.old.place t ≡ Unseen → HasRoom (walking self.old top) }
         ensures { self.new ≡ followed (spot self.old.place t) self.old top t }
     {
         let next = top.next + 1;
         match self.place[t as usize] {
             Place::Unseen => {
-                self.walk.replace(Walk { next, ..top }).unwrap();
+                self.walk.push(Walk { next, ..top }).unwrap();
                 self.enter(t);
             }
             Place::Open(at) => {
                 let low = top.low.min(at);
-                self.walk.replace(Walk { next, low, ..top }).unwrap();
+                self.walk.push(Walk { next, low, ..top }).unwrap();
             }
-            Place::Done(_) => self.walk.replace(Walk { next, ..top }).unwrap(),
+            Place::Done(_) => self.walk.push(Walk { next, ..top }).unwrap(),
         }
     }
 
-    // Takes the top off the walk, once all its moves are looked at.
+    // Leaves what was the walk's top, once all its moves are looked at.
     fn leave(&mut self, top: Walk)
         requires many { self.old.count < 128 }
         requires within { top.at ≤ length self.old.numbers.held }
         requires stacked { Listed (spot self.old.place) self.old.numbers.held }
-        requires top { self.old.walk.held ≡ top ∷ drop 1 self.old.walk.held }
-        ensures shut { top.low ≡ top.at → Shuts (without_top self.old) self.new top.at }
-        ensures passed { top.low ≢ top.at → self.new ≡ lowered (without_top self.old) top.low }
+        ensures shut { top.low ≡ top.at → Shuts self.old self.new top.at }
+        ensures passed { top.low ≢ top.at → self.new ≡ lowered self.old top.low }
     {
-        self.walk.pop();
         if top.low == top.at {
             self.close(top.at);
         } else {
