@@ -1,12 +1,12 @@
 -- Each step of the search keeps what is promised, and leaves less to do.
-use Rattle.std.proofs.Common.{◌≡◌, ℕ, ◌+◌, ◌<◌, ◌≤◌, min, List, [], ◌∷◌, length, set, sym, refl, ap, ◌∙◌, subst, Some, None, ⊎_elim, arith}
+use Rattle.std.proofs.Common.{◌≡◌, ℕ, ◌+◌, ◌<◌, ◌≤◌, min, List, [], ◌∷◌, length, set, Option, sym, refl, ap, ◌∙◌, subst, Some, None, ⊎_elim, arith}
 use Rattle.std.proofs.lemmas.Bool.{cases_eq, cases_lt}
 use Rattle.std.proofs.lemmas.List.{get_or-set_same, get_or-set_other, length-set}
+use Rattle.std.specs.List.{AllByRecursion}
 use Rattle.kripke.specs.Models.{Frame, Kripke, WellFormed, move}
 use Rattle.components.specs.Inner.{inner}
-use Rattle.components.specs.Held.{Held, pushed}
 use Rattle.components.specs.Reach.{target}
-use Rattle.components.specs.Walks.{Inv, Fit, Going, HasRoom, Shuts, spot, unmet, unseen, left_over, marked, lowest_top, walking, entered, followed, lowered}
+use Rattle.components.specs.Walks.{Mark, Listed, Inv, Fit, Going, Shuts, spot, unmet, unseen, left_over, marked, lowest_top, walking, walked, entered, followed, lowered}
 use Rattle.components.specs.declared.marks.Place.{Place}
 use Rattle.components.specs.declared.marks.Place.TheVariants.{Unseen, Open, Done}
 use Rattle.components.specs.declared.marks.Walk.{Walk}
@@ -36,12 +36,9 @@ module _ (G : Frame) (S : Search) (w : Walk) (on : Going G (walking S w)) where
   pub count_inside : S.count < G.size
   count_inside = omega (arith, at-inside, on.fits.numbers)
 
-  pub back : length S.walk.held < S.walk.room
-  back = omega (arith, on.fits.walks, on.rooms.1)
-
   module _ (short : (s : ℕ) → length (G.row s) ≤ 4096) (t : ℕ) (inside : t < G.size)
       (there : w.next < length (G.row w.state)) (goal : target G.row w.state w.next ≡ t) where
-    pub room : spot S.place t ≡ Unseen → HasRoom (walking S w)
+    pub room : spot S.place t ≡ Unseen → (length S.numbers.held < 128) × (length S.numbers.held < S.numbers.room) × (length S.walk.held < S.walk.room)
     room new =
         let some : 0 < unseen G.size (spot S.place) = unseen_some G.size (spot S.place) t inside new in (
           omega (arith, on.few, on.fits.numbers),
@@ -93,9 +90,20 @@ module _ (G : Frame) (S : Search) (w : Walk) (on : Going G (walking S w)) where
     next_followed (Done d) e = looked w.low (pass_done G.row (spot S.place) S.numbers.held S.count w S.walk.held on.keeps d (ap (spot S.place) goal ∙ e))
 
   module _ (done : length (G.row w.state) ≤ w.next) where
+    -- a mark that is at its own place is above that of the one below
+    unlowered : w.low ≡ w.at → lowest_top S.walk.held w.low ≡ S.walk.held
+    unlowered low = same S.walk.held on.keeps.climbs.0 on.keeps.marks.1
+      where
+        same : (ws : List Walk) → AllByRecursion (λ v. v.at < w.at) ws → AllByRecursion (Mark G.row (spot S.place)) ws → lowest_top ws w.low ≡ ws
+        same [] below marks = refl
+        same (v ∷ vs) below marks =
+            let e : min v.low w.low ≡ v.low = omega (arith, below.0, marks.0.1) in
+            ap (λ l. record { state = v.state; at = v.at; next = v.next; low = l } ∷ vs) e
+
     -- a component is closed
-    pub next_shut : w.low ≡ w.at → (S' : Search) → Shuts S S' w.at → Next G (walking S w) S'
-    next_shut low S' h =
+    pub next_shut : w.low ≡ w.at → (S' : Search) → Shuts (lowered S w.low) S' w.at → Next G (walking S w) S'
+    next_shut low S' h' =
+        let h : Shuts S S' w.at = subst (λ ws. Shuts (record S { walk = record S.walk { held = ws } }) S' w.at) (unlowered low) h' in
         let same : unseen G.size (spot S'.place) ≡ unseen G.size (spot S.place) = turned_count (spot S.place) (spot S'.place) w.at S.count h.turned G.size in
         let len : length S'.numbers.held ≡ w.at = h.len in
         subst (Next G (walking S w)) (sym h.rest) (record {
@@ -133,44 +141,40 @@ module _ (G : Frame) (S : Search) (w : Walk) (on : Going G (walking S w)) where
           seen = λ s u. u;
         }
 
--- the same of a model's inner moves, with w taken off the walk of S
-module _ (M : Kripke) (formed : WellFormed M) (S : Search) (rest : Held Walk) (w : Walk) (off : S.walk ≡ pushed rest w) (on : Going (inner M) S) where
+-- the same of a model's inner moves, where the walk is at w
+module _ (M : Kripke) (formed : WellFormed M) (S : Search) (current : Option Walk) (w : Walk) (is : current ≡ Some w) (on : Going (inner M) (walked S current)) where
   abbrev G : Frame
   G = inner M
 
-  abbrev T : Search
-  T = record S { walk = rest }
+  on-top : Going G (walking S w)
+  on-top = subst (λ x. Going G (walked S x)) is on
 
-  on-top : Going G (walking T w)
-  on-top = subst (λ x. Going G (record S { walk = x })) off on
-
-  from-top : (S' : Search) → Next G (walking T w) S' → Next G S S'
-  from-top S' n = subst (λ x. Next G (record S { walk = x }) S') (sym off) n
+  from-top : (S' : Search) → Next G (walking S w) S' → Next G (walked S current) S'
+  from-top S' n = subst (λ x. Next G (walked S x) S') (sym is) n
 
   -- there is a next move, to t
   module _ (t : ℕ) (e : Some t ≡ move (G.row w.state) w.next) where
     goes : (w.next < length (G.row w.state)) × (target G.row w.state w.next ≡ t) × (t < G.size)
-    goes = inner_some M formed w.state w.next t (state_inside G T w on-top) e
+    goes = inner_some M formed w.state w.next t (state_inside G S w on-top) e
 
-    pub may_follow : (t < 128) × (w.next < 4096) × (length rest.held < rest.room) × (spot S.place t ≡ Unseen → HasRoom (walking T w))
+    pub may_follow : (t < 128) × (w.next < 4096) × (spot S.place t ≡ Unseen → (length S.numbers.held < 128) × (length S.numbers.held < S.numbers.room) × (length S.walk.held < S.walk.room))
     may_follow = (
-      omega (arith, goes.2, on.few),
+      omega (arith, goes.2, on-top.few),
       omega (arith, goes.0, inner_short M formed w.state),
-      back G T w on-top,
-      room G T w on-top (inner_short M formed) t goes.2 goes.0 goes.1,
+      room G S w on-top (inner_short M formed) t goes.2 goes.0 goes.1,
     )
 
-    pub next_follow : (S' : Search) → S' ≡ followed (spot S.place t) T w t → Next G S S'
-    next_follow S' is = from-top S' (subst (Next G (walking T w)) (sym is) (next_followed G T w on-top (inner_short M formed) t goes.2 goes.0 goes.1 (spot S.place t) refl))
+    pub next_follow : (S' : Search) → S' ≡ followed (spot S.place t) S w t → Next G (walked S current) S'
+    next_follow S' same = from-top S' (subst (Next G (walking S w)) (sym same) (next_followed G S w on-top (inner_short M formed) t goes.2 goes.0 goes.1 (spot S.place t) refl))
 
   -- there is none
-  pub may_leave : (S.count < 128) × (w.at ≤ length S.numbers.held)
-  may_leave = (omega (arith, count_inside G T w on-top, on.few), omega (arith, at-inside G T w on-top))
+  pub may_leave : (S.count < 128) × (w.at ≤ length S.numbers.held) × Listed (spot S.place) S.numbers.held
+  may_leave = (omega (arith, count_inside G S w on-top, on-top.few), omega (arith, at-inside G S w on-top), on-top.keeps.stacked)
 
-  pub next_leave : None ≡ move (G.row w.state) w.next → (S' : Search) → (w.low ≡ w.at → Shuts T S' w.at) → ((w.low ≡ w.at → ⊥) → S' ≡ lowered T w.low) → Next G S S'
+  pub next_leave : None ≡ move (G.row w.state) w.next → (S' : Search) → (w.low ≡ w.at → Shuts (lowered S w.low) S' w.at) → ((w.low ≡ w.at → ⊥) → S' ≡ lowered S w.low) → Next G (walked S current) S'
   next_leave e S' shut passed =
       let done = inner-none M w.state w.next e in
       from-top S' (⊎_elim
-      (λ same. next_shut G T w on-top done same S' (shut same))
-      (λ ne. subst (Next G (walking T w)) (sym (passed ne)) (next_passed G T w on-top done ne))
+      (λ same. next_shut G S w on-top done same S' (shut same))
+      (λ ne. subst (Next G (walking S w)) (sym (passed ne)) (next_passed G S w on-top done ne))
       (cases_eq w.low w.at))

@@ -1,5 +1,5 @@
 -- What the component walk keeps true of its places, its two stacks and its count.
-use Rattle.std.specs.Prelude.{◌≡◌, ℕ, zero, suc, ◌+◌, ◌-◌, ◌*◌, ◌<◌, ◌≤◌, min, ◌⊎◌, List, [], ◌∷◌, length, replicate, slice_index_or, slice_set}
+use Rattle.std.specs.Prelude.{◌≡◌, ℕ, zero, suc, ◌+◌, ◌-◌, ◌*◌, ◌<◌, ◌≤◌, min, ◌⊎◌, List, [], ◌∷◌, length, replicate, Option, Some, None, slice_index_or, slice_set}
 use Rattle.std.specs.List.{AllByRecursion}
 use Rattle.kripke.specs.Models.{Frame}
 use Rattle.components.specs.Held.{pushed}
@@ -125,6 +125,15 @@ blank numbers walks = record {
 abbrev pub walking : Search → Walk → Search
 walking S w = record S { walk = pushed S.walk w }
 
+-- a walk with what it goes on from at its front, if there is that
+abbrev pub fronted : Option Walk → List Walk → List Walk
+fronted (Some w) ws = w ∷ ws
+fronted None ws = ws
+
+-- a search with that on its walk
+abbrev pub walked : Search → Option Walk → Search
+walked S o = record S { walk = record S.walk { held = fronted o S.walk.held } }
+
 -- a search with a state put onto both stacks
 abbrev pub entered : Search → ℕ → Search
 entered S s = record S {
@@ -132,10 +141,6 @@ entered S s = record S {
   numbers = pushed S.numbers s;
   walk = pushed S.walk (fresh s (length S.numbers.held));
 }
-
--- there is room for a state on both stacks
-abbrev pub HasRoom : Search → Type 0
-HasRoom S = (length S.numbers.held < 128) × (length S.numbers.held < S.numbers.room) × (length S.walk.held < S.walk.room)
 
 -- a search after a move from w to t, where t stands at a place
 abbrev pub followed : Place → Search → Walk → ℕ → Search

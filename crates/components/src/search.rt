@@ -1,7 +1,7 @@
 //! The search: one depth-first walk with two stacks in lent memory.
-ghost use Rattle.std.specs.Prelude.{◌≡◌, ℕ, ◌<◌, ◌≤◌, length, ◌≢◌};
+ghost use Rattle.std.specs.Prelude.{◌≡◌, ℕ, ◌<◌, ◌≤◌, [], length, ◌≢◌};
 ghost use Rattle.components.specs.Inner.{inner};
-ghost use Rattle.components.specs.Walks.{spot, Listed, Resting, Searched, HasRoom, Shuts, blank, walking, entered, followed, lowered};
+ghost use Rattle.components.specs.Walks.{spot, Listed, Resting, Searched, Shuts, blank, walking, walked, entered, followed, lowered};
 ghost use Rattle.components.specs.declared.marks.Place.TheVariants.{Unseen};
 
 use crate::marks::{Place, Walk};
@@ -52,69 +52,68 @@ impl<'a> Search<'a> {
         ensures resting { Resting (inner (M.Model.means model.now)) self.new }
         ensures seen { (s : ℕ) → spot self.new.place s ≡ Unseen → (spot self.old.place s ≡ Unseen) × (s ≢ root) }
     {
-        self.enter(root);
-        while let Some(top) = self.walk.pop() {
-            match inner_move(model, top.state, top.next) {
-                Some(t) => self.follow(top, t),
+        let mut current = Some(self.enter(root));
+        while let Some(top) = current {
+            current = match inner_move(model, top.state, top.next) {
+                Some(t) => Some(self.follow(top, t)),
                 None => self.leave(top),
-            }
+            };
         }
     }
 
-    // Puts a state that is met for the first time onto both stacks.
-    fn enter(&mut self, s: u16)
+    // Meets a state: the walk goes on from it.
+    fn enter(&mut self, s: u16) -> Walk
         requires state { s < 128 }
-        requires room { HasRoom self.old }
-        ensures { self.new ≡ entered self.old s }
+        requires room { (length self.old.numbers.held < 128) × (length self.old.numbers.held < self.old.numbers.room) }
+        ensures { walking self.new result ≡ entered self.old s }
     {
         let at = self.numbers.len() as u8;
         self.numbers.push(s).unwrap();
-        self.walk
-            .push(Walk {
-                state: s,
-                at,
-                next: 0,
-                low: at,
-            })
-            .unwrap();
         self.place[s as usize] = Place::Open(at);
+        Walk {
+            state: s,
+            at,
+            next: 0,
+            low: at,
+        }
     }
 
-    // Looks at the next move of what was the walk's top, which goes to `t`, and puts it back.
-    fn follow(&mut self, top: Walk, t: u16)
+    // Looks at the next move of `top`, which goes to `t`, and says where the walk goes on.
+    fn follow(&mut self, top: Walk, t: u16) -> Walk
         requires state { t < 128 }
         requires short { top.next < 4096 }
-        requires back { length self.old.walk.held < self.old.walk.room }
-        requires room { spot self.old.place t ≡ Unseen → HasRoom (walking self.old top) }
-        ensures { self.new ≡ followed (spot self.old.place t) self.old top t }
+        requires room { spot self.old.place t ≡ Unseen → (length self.old.numbers.held < 128) × (length self.old.numbers.held < self.old.numbers.room) × (length self.old.walk.held < self.old.walk.room) }
+        ensures { walking self.new result ≡ followed (spot self.old.place t) self.old top t }
     {
         let next = top.next + 1;
         match self.place[t as usize] {
             Place::Unseen => {
                 self.walk.push(Walk { next, ..top }).unwrap();
-                self.enter(t);
+                self.enter(t)
             }
             Place::Open(at) => {
                 let low = top.low.min(at);
-                self.walk.push(Walk { next, low, ..top }).unwrap();
+                Walk { next, low, ..top }
             }
-            Place::Done(_) => self.walk.push(Walk { next, ..top }).unwrap(),
+            Place::Done(_) => Walk { next, ..top },
         }
     }
 
-    // Leaves what was the walk's top, once all its moves are looked at.
-    fn leave(&mut self, top: Walk)
+    // Leaves `top`, once all its moves are looked at, for the state that it was met from.
+    fn leave(&mut self, top: Walk) -> Option<Walk>
         requires many { self.old.count < 128 }
         requires within { top.at ≤ length self.old.numbers.held }
         requires stacked { Listed (spot self.old.place) self.old.numbers.held }
-        ensures shut { top.low ≡ top.at → Shuts self.old self.new top.at }
-        ensures passed { top.low ≢ top.at → self.new ≡ lowered self.old top.low }
+        ensures shut { top.low ≡ top.at → Shuts (lowered self.old top.low) (walked self.new result) top.at }
+        ensures passed { top.low ≢ top.at → walked self.new result ≡ lowered self.old top.low }
+        ensures over { result ≡ None → self.new.walk.held ≡ [] }
     {
         if top.low == top.at {
             self.close(top.at);
-        } else {
-            self.lower_top(top.low);
         }
+        let below = self.walk.pop()?;
+        let low = below.low.min(top.low);
+        Some(Walk { low, ..below })
     }
 
     // Turns what stands on the number stack from place `at` up into a component.
@@ -128,15 +127,5 @@ impl<'a> Search<'a> {
             self.place[s as usize] = Place::Done(self.count);
         }
         self.count += 1;
-    }
-
-    // Hands a low mark on to the top of the walk.
-    fn lower_top(&mut self, low: u8)
-        ensures { self.new ≡ lowered self.old low }
-    {
-        if let Some(parent) = self.walk.top() {
-            let low = parent.low.min(low);
-            self.walk.replace(Walk { low, ..parent }).unwrap();
-        }
     }
 }
