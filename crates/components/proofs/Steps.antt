@@ -141,40 +141,34 @@ module _ (G : Frame) (S : Search) (w : Walk) (on : Going G (walking S w)) where
           seen = λ s u. u;
         }
 
--- the same of a model's inner moves, where the walk is at w
-module _ (M : Kripke) (formed : WellFormed M) (S : Search) (current : Option Walk) (w : Walk) (is : current ≡ Some w) (on : Going (inner M) (walked S current)) where
+-- the same of a model's inner moves
+module _ (M : Kripke) (formed : WellFormed M) (S : Search) (w : Walk) (on : Going (inner M) (walking S w)) where
   abbrev G : Frame
   G = inner M
-
-  on-top : Going G (walking S w)
-  on-top = subst (λ x. Going G (walked S x)) is on
-
-  from-top : (S' : Search) → Next G (walking S w) S' → Next G (walked S current) S'
-  from-top S' n = subst (λ x. Next G (walked S x) S') (sym is) n
 
   -- there is a next move, to t
   module _ (t : ℕ) (e : Some t ≡ move (G.row w.state) w.next) where
     goes : (w.next < length (G.row w.state)) × (target G.row w.state w.next ≡ t) × (t < G.size)
-    goes = inner_some M formed w.state w.next t (state_inside G S w on-top) e
+    goes = inner_some M formed w.state w.next t (state_inside G S w on) e
 
     pub may_follow : (t < 128) × (w.next < 4096) × (spot S.place t ≡ Unseen → (length S.numbers.held < 128) × (length S.numbers.held < S.numbers.room) × (length S.walk.held < S.walk.room))
     may_follow = (
-      omega (arith, goes.2, on-top.few),
+      omega (arith, goes.2, on.few),
       omega (arith, goes.0, inner_short M formed w.state),
-      room G S w on-top (inner_short M formed) t goes.2 goes.0 goes.1,
+      room G S w on (inner_short M formed) t goes.2 goes.0 goes.1,
     )
 
-    pub next_follow : (S' : Search) → S' ≡ followed (spot S.place t) S w t → Next G (walked S current) S'
-    next_follow S' same = from-top S' (subst (Next G (walking S w)) (sym same) (next_followed G S w on-top (inner_short M formed) t goes.2 goes.0 goes.1 (spot S.place t) refl))
+    pub next_follow : (S' : Search) → S' ≡ followed (spot S.place t) S w t → Next G (walking S w) S'
+    next_follow S' is = subst (Next G (walking S w)) (sym is) (next_followed G S w on (inner_short M formed) t goes.2 goes.0 goes.1 (spot S.place t) refl)
 
   -- there is none
   pub may_leave : (S.count < 128) × (w.at ≤ length S.numbers.held) × Listed (spot S.place) S.numbers.held
-  may_leave = (omega (arith, count_inside G S w on-top, on-top.few), omega (arith, at-inside G S w on-top), on-top.keeps.stacked)
+  may_leave = (omega (arith, count_inside G S w on, on.few), omega (arith, at-inside G S w on), on.keeps.stacked)
 
-  pub next_leave : None ≡ move (G.row w.state) w.next → (S' : Search) → (w.low ≡ w.at → Shuts (lowered S w.low) S' w.at) → ((w.low ≡ w.at → ⊥) → S' ≡ lowered S w.low) → Next G (walked S current) S'
+  pub next_leave : None ≡ move (G.row w.state) w.next → (S' : Search) → (w.low ≡ w.at → Shuts (lowered S w.low) S' w.at) → ((w.low ≡ w.at → ⊥) → S' ≡ lowered S w.low) → Next G (walking S w) S'
   next_leave e S' shut passed =
       let done = inner-none M w.state w.next e in
-      from-top S' (⊎_elim
-      (λ same. next_shut G S w on-top done same S' (shut same))
-      (λ ne. subst (Next G (walking S w)) (sym (passed ne)) (next_passed G S w on-top done ne))
-      (cases_eq w.low w.at))
+      ⊎_elim
+      (λ same. next_shut G S w on done same S' (shut same))
+      (λ ne. subst (Next G (walking S w)) (sym (passed ne)) (next_passed G S w on done ne))
+      (cases_eq w.low w.at)

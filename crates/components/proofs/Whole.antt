@@ -64,9 +64,10 @@ module _ (G : Frame) (S : Search) (t : ℕ) (resting : Resting G S) (inside : t 
       })
 
 -- a state that is entered is met, and the others are as they were
-pub entered_seen : (S : Search) (t : ℕ) → t < length S.place → (s : ℕ) → spot (entered S t).place s ≡ Unseen → (spot S.place s ≡ Unseen) × (s ≡ t → ⊥)
-entered_seen S t l s u =
+pub entered_seen : (S S' : Search) (t : ℕ) → t < length S.place → S' ≡ entered S t → (s : ℕ) → spot S'.place s ≡ Unseen → (spot S.place s ≡ Unseen) × (s ≡ t → ⊥)
+entered_seen S S' t l e s u' =
     let q : ℕ = length S.numbers.held in
+    let u : spot (set S.place t (Open q)) s ≡ Unseen = subst (λ (x : Search). spot x.place s ≡ Unseen) e u' in
     ⊎_elim
     (λ p. absurd (unseen_open (ap (spot (set S.place t (Open q))) (sym p) ∙ u) (get_or-set_same S.place t (Open q) Unseen l)))
     (λ ne. (sym (get_or-set_other S.place t s (Open q) Unseen ne) ∙ u, ne))

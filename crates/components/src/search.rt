@@ -52,12 +52,15 @@ impl<'a> Search<'a> {
         ensures resting { Resting (inner (M.Model.means model.now)) self.new }
         ensures seen { (s : ℕ) → spot self.new.place s ≡ Unseen → (spot self.old.place s ≡ Unseen) × (s ≢ root) }
     {
-        let mut current = Some(self.enter(root));
-        while let Some(top) = current {
-            current = match inner_move(model, top.state, top.next) {
-                Some(t) => Some(self.follow(top, t)),
-                None => self.leave(top),
-            };
+        let mut top = self.enter(root);
+        loop {
+            match inner_move(model, top.state, top.next) {
+                Some(t) => self.follow(&mut top, t),
+                None => match self.leave(top) {
+                    Some(below) => top = below,
+                    None => return,
+                },
+            }
         }
     }
 
@@ -78,24 +81,21 @@ impl<'a> Search<'a> {
         }
     }
 
-    // Looks at the next move of `top`, which goes to `t`, and says where the walk goes on.
-    fn follow(&mut self, top: Walk, t: u16) -> Walk
+    // Looks at the next move of `top`, which goes to `t`: the walk goes on from a state that is met for the first time.
+    fn follow(&mut self, top: &mut Walk, t: u16)
         requires state { t < 128 }
-        requires short { top.next < 4096 }
+        requires short { top.old.next < 4096 }
         requires room { spot self.old.place t ≡ Unseen → (length self.old.numbers.held < 128) × (length self.old.numbers.held < self.old.numbers.room) × (length self.old.walk.held < self.old.walk.room) }
-        ensures { walking self.new result ≡ followed (spot self.old.place t) self.old top t }
+        ensures { walking self.new top.new ≡ followed (spot self.old.place t) self.old top.old t }
     {
-        let next = top.next + 1;
+        top.next += 1;
         match self.place[t as usize] {
             Place::Unseen => {
-                self.walk.push(Walk { next, ..top }).unwrap();
-                self.enter(t)
+                self.walk.push(*top).unwrap();
+                *top = self.enter(t);
             }
-            Place::Open(at) => {
-                let low = top.low.min(at);
-                Walk { next, low, ..top }
-            }
-            Place::Done(_) => Walk { next, ..top },
+            Place::Open(at) => top.low = top.low.min(at),
+            Place::Done(_) => {}
         }
     }
 
