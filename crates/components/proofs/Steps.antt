@@ -6,7 +6,7 @@ use Rattle.std.specs.List.{AllByRecursion}
 use Rattle.kripke.specs.Models.{Frame, Kripke, WellFormed, move}
 use Rattle.components.specs.Inner.{inner}
 use Rattle.components.specs.Reach.{target}
-use Rattle.components.specs.Walks.{Mark, Listed, Inv, Fit, Going, Shuts, spot, unmet, unseen, left_over, marked, lowest_top, walking, walked, entered, followed, lowered}
+use Rattle.components.specs.Walks.{Mark, Listed, Inv, Fit, Going, HasRoom, Shuts, spot, unmet, unseen, left_over, marked, lowest_top, walking, walked, entered, followed, lowered}
 use Rattle.components.specs.declared.marks.Place.{Place}
 use Rattle.components.specs.declared.marks.Place.TheVariants.{Unseen, Open, Done}
 use Rattle.components.specs.declared.marks.Walk.{Walk}
@@ -38,11 +38,10 @@ module _ (G : Frame) (S : Search) (w : Walk) (on : Going G (walking S w)) where
 
   module _ (short : (s : ℕ) → length (G.row s) ≤ 4096) (t : ℕ) (inside : t < G.size)
       (there : w.next < length (G.row w.state)) (goal : target G.row w.state w.next ≡ t) where
-    pub room : spot S.place t ≡ Unseen → (length S.numbers.held < 128) × (length S.numbers.held < S.numbers.room) × (length S.walk.held < S.walk.room)
+    pub room : spot S.place t ≡ Unseen → HasRoom S × (length S.walk.held < S.walk.room)
     room new =
         let some : 0 < unseen G.size (spot S.place) = unseen_some G.size (spot S.place) t inside new in (
-          omega (arith, on.few, on.fits.numbers),
-          omega (arith, on.rooms.0, on.fits.numbers),
+          (omega (arith, on.few, on.fits.numbers), omega (arith, on.rooms.0, on.fits.numbers)),
           omega (arith, on.rooms.1, on.fits.walks),
         )
 
@@ -151,7 +150,7 @@ module _ (M : Kripke) (formed : WellFormed M) (S : Search) (w : Walk) (on : Goin
     goes : (w.next < length (G.row w.state)) × (target G.row w.state w.next ≡ t) × (t < G.size)
     goes = inner_some M formed w.state w.next t (state_inside G S w on) e
 
-    pub may_follow : (t < 128) × (w.next < 4096) × (spot S.place t ≡ Unseen → (length S.numbers.held < 128) × (length S.numbers.held < S.numbers.room) × (length S.walk.held < S.walk.room))
+    pub may_follow : (t < 128) × (w.next < 4096) × (spot S.place t ≡ Unseen → HasRoom S × (length S.walk.held < S.walk.room))
     may_follow = (
       omega (arith, goes.2, on.few),
       omega (arith, goes.0, inner_short M formed w.state),

@@ -3,7 +3,7 @@ use Rattle.std.proofs.Common.{◌≡◌, ℕ, ◌+◌, ◌<◌, ◌≤◌, List,
 use Rattle.std.proofs.lemmas.Bool.{cases_eq, cases_lt}
 use Rattle.std.proofs.lemmas.List.{get_or-set_same, get_or-set_other, get_or-replicate, get_or_past, length-replicate, length-set}
 use Rattle.kripke.specs.Models.{Frame}
-use Rattle.components.specs.Walks.{Inv, Going, Resting, Searched, spot, unmet, unseen, blank, entered}
+use Rattle.components.specs.Walks.{Inv, Going, Resting, Searched, HasRoom, spot, unmet, unseen, blank, entered}
 use Rattle.components.specs.declared.marks.Place.{Place}
 use Rattle.components.specs.declared.marks.Place.TheVariants.{Unseen, Open, Done}
 use Rattle.components.specs.declared.marks.Walk.{Walk}
@@ -32,13 +32,8 @@ module _ (G : Frame) (S : Search) (t : ℕ) (resting : Resting G S) (inside : t 
   some = unseen_some G.size (spot S.place) t inside new
 
   -- there is room for it
-  pub roomy : (t < 128) × (length S.numbers.held < 128) × (length S.numbers.held < S.numbers.room) × (length S.walk.held < S.walk.room)
-  roomy = (
-    omega (arith, on.few),
-    omega (arith, some, on.few, on.fits.numbers),
-    omega (arith, some, on.rooms.0, on.fits.numbers),
-    omega (arith, some, on.rooms.1, on.fits.walks),
-  )
+  pub may_enter : (t < 128) × HasRoom S
+  may_enter = (omega (arith, on.few), (omega (arith, some, on.few, on.fits.numbers), omega (arith, some, on.rooms.0, on.fits.numbers)))
 
   put : spot (set S.place t (Open 0)) t ≡ Open 0
   put = get_or-set_same S.place t (Open 0) Unseen (omega (arith, on.wide))

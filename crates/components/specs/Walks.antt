@@ -1,6 +1,6 @@
 -- What the component walk keeps true of its places, its two stacks and its count.
-use Rattle.std.specs.Prelude.{◌≡◌, ℕ, zero, suc, ◌+◌, ◌-◌, ◌*◌, ◌<◌, ◌≤◌, min, ◌⊎◌, List, [], ◌∷◌, length, replicate, Option, Some, None, slice_index_or, slice_set}
-use Rattle.std.specs.List.{AllByRecursion}
+use Rattle.std.specs.Prelude.{◌≡◌, ℕ, zero, suc, ◌+◌, ◌-◌, ◌*◌, ◌<◌, ◌≤◌, min, ◌⊎◌, List, [], ◌∷◌, length, replicate, Option, slice_index_or, slice_set}
+use Rattle.std.specs.List.{AllByRecursion, cons_option}
 use Rattle.kripke.specs.Models.{Frame}
 use Rattle.components.specs.Held.{pushed}
 use Rattle.components.specs.Reach.{Leads, target}
@@ -125,14 +125,9 @@ blank numbers walks = record {
 abbrev pub walking : Search → Walk → Search
 walking S w = record S { walk = pushed S.walk w }
 
--- a walk with what it goes on from at its front, if there is that
-abbrev pub fronted : Option Walk → List Walk → List Walk
-fronted (Some w) ws = w ∷ ws
-fronted None ws = ws
-
--- a search with that on its walk
+-- a search that walks on from a state, if there is one
 abbrev pub walked : Search → Option Walk → Search
-walked S o = record S { walk = record S.walk { held = fronted o S.walk.held } }
+walked S o = record S { walk = record S.walk { held = cons_option o S.walk.held } }
 
 -- a search with a state put onto both stacks
 abbrev pub entered : Search → ℕ → Search
@@ -141,6 +136,10 @@ entered S s = record S {
   numbers = pushed S.numbers s;
   walk = pushed S.walk (fresh s (length S.numbers.held));
 }
+
+-- another state can be met
+abbrev pub HasRoom : Search → Type 0
+HasRoom S = (length S.numbers.held < 128) × (length S.numbers.held < S.numbers.room)
 
 -- a search after a move from w to t, where t stands at a place
 abbrev pub followed : Place → Search → Walk → ℕ → Search

@@ -5,7 +5,7 @@
 ghost use Rattle.components.specs.Found.{Answers};
 
 use crate::cycles::with_self_moves;
-use crate::numbering::number;
+use crate::numbering::{Sizes, number};
 use crate::search::Search;
 use models::Model;
 use sets::Set;
@@ -58,11 +58,8 @@ pub fn find_components<M: Model>(
         return Err(Refused::ShortScratch);
     }
     let mut search = Search::new(walks, states);
-    search.walk_all(model, size);
-    let sizes = number(&search.place, size, part);
-    let cyclic = with_self_moves(model, size, part, sizes.many);
-    Ok(Found {
-        count: sizes.count,
-        cyclic,
-    })
+    search.walk_all(model);
+    let Sizes { count, many } = number(&search.place, size, part);
+    let cyclic = with_self_moves(model, part, many);
+    Ok(Found { count, cyclic })
 }

@@ -15,16 +15,18 @@ pub struct Sizes {
 }
 
 // Writes the component of each state to the front of `part`, numbered by first member.
-pub fn number(place: &[Place; 128], size: u16, part: &mut [u8; 128]) -> Sizes
+pub fn number(places: &[Place; 128], size: u16, part: &mut [u8; 128]) -> Sizes
     requires size { size ≤ 128 }
-    requires done { (s : ℕ) → s < size → (d : ℕ) × (spot place.now s ≡ Done d) × (d < 128) }
-    ensures { Numbered place.now size part.old part.new result.count result.many }
+    requires done { (s : ℕ) → s < size → (d : ℕ) × (spot places.now s ≡ Done d) × (d < 128) }
+    ensures { Numbered places.now size part.old part.new result.count result.many }
 {
     let mut given = [None; 128];
     let mut count = 0;
     let mut many = Set::NONE;
-    for (s, p) in place[..size as usize].iter().enumerate() {
-        let Place::Done(c) = *p else { unreachable!() };
+    for (s, place) in places[..size as usize].iter().enumerate() {
+        let Place::Done(c) = *place else {
+            unreachable!()
+        };
         match given[c as usize] {
             Some(i) => {
                 part[s] = i;

@@ -1,7 +1,7 @@
 //! The search: one depth-first walk with two stacks in lent memory.
 ghost use Rattle.std.specs.Prelude.{◌≡◌, ℕ, ◌<◌, ◌≤◌, [], length, ◌≢◌};
 ghost use Rattle.components.specs.Inner.{inner};
-ghost use Rattle.components.specs.Walks.{spot, Listed, Resting, Searched, Shuts, blank, walking, walked, entered, followed, lowered};
+ghost use Rattle.components.specs.Walks.{spot, Listed, Resting, Searched, HasRoom, Shuts, blank, walking, walked, entered, followed, lowered};
 ghost use Rattle.components.specs.declared.marks.Place.TheVariants.{Unseen};
 
 use crate::marks::{Place, Walk};
@@ -33,12 +33,11 @@ impl<'a> Search<'a> {
     }
 
     // Walks from every state that is not met yet.
-    pub fn walk_all<M: Model>(&mut self, model: &M, size: u16)
-        requires size { size ≡ (inner (M.Model.means model.now)).size }
-        requires resting { Resting (inner (M.Model.means model.now)) self.old }
+    pub fn walk_all<M: Model>(&mut self, model: &M)
+        requires { Resting (inner (M.Model.means model.now)) self.old }
         ensures { Searched (inner (M.Model.means model.now)) self.new.place self.new.count }
     {
-        for root in 0..size {
+        for root in 0..model.size() {
             if let Place::Unseen = self.place[root as usize] {
                 self.explore(model, root);
             }
@@ -67,7 +66,7 @@ impl<'a> Search<'a> {
     // Meets a state: the walk goes on from it.
     fn enter(&mut self, s: u16) -> Walk
         requires state { s < 128 }
-        requires room { (length self.old.numbers.held < 128) × (length self.old.numbers.held < self.old.numbers.room) }
+        requires room { HasRoom self.old }
         ensures { walking self.new result ≡ entered self.old s }
     {
         let at = self.numbers.len() as u8;
@@ -85,7 +84,7 @@ impl<'a> Search<'a> {
     fn follow(&mut self, top: &mut Walk, t: u16)
         requires state { t < 128 }
         requires short { top.old.next < 4096 }
-        requires room { spot self.old.place t ≡ Unseen → (length self.old.numbers.held < 128) × (length self.old.numbers.held < self.old.numbers.room) × (length self.old.walk.held < self.old.walk.room) }
+        requires room { spot self.old.place t ≡ Unseen → HasRoom self.old × (length self.old.walk.held < self.old.walk.room) }
         ensures { walking self.new top.new ≡ followed (spot self.old.place t) self.old top.old t }
     {
         top.next += 1;
@@ -111,9 +110,10 @@ impl<'a> Search<'a> {
         if top.low == top.at {
             self.close(top.at);
         }
-        let below = self.walk.pop()?;
-        let low = below.low.min(top.low);
-        Some(Walk { low, ..below })
+        self.walk.pop().map(|below| Walk {
+            low: below.low.min(top.low),
+            ..below
+        })
     }
 
     // Turns what stands on the number stack from place `at` up into a component.

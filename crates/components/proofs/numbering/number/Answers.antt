@@ -9,7 +9,7 @@ loop-s-init c = (giving_none _ _, search rules)
 
 pub unreachable-requires : goal.unreachable-requires
 unreachable-requires c =
-    let l : c.loop-s.s < c.args.size = omega (arith, length-take c.args.size c.args.place.now) in
+    let l : c.loop-s.s < c.args.size = omega (arith, length-take c.args.size c.args.places.now) in
     let d = c.requires.done c.loop-s.s l in
     c.in_default.not-Done d.0 (get_or-take _ _ _ _ l ∙ d.1)
 
@@ -22,7 +22,7 @@ bounds-given-c-in-None c = (done_at _ _ _ _ c.requires.done c.loop-s-test.true c
 pub loop-s-preserved : goal.loop-s-preserved
 loop-s-preserved c =
     let before = c.loop-s.invariant.0 in
-    let inside : c.loop-s.s < length c.loop-s.part = omega (arith, c.loop-s.invariant.1, length-take c.args.size c.args.place.now) in
+    let inside : c.loop-s.s < length c.loop-s.part = omega (arith, c.loop-s.invariant.1, length-take c.args.size c.args.places.now) in
     let at = done_at _ _ _ _ c.requires.done c.loop-s-test.true c.in-Done.is in (
       elim c.match-given-c.branch [
         | in-Some w ↦

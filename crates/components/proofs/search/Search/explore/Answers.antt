@@ -1,7 +1,7 @@
 use Rattle.std.proofs.Common.{refl, arith}
 use Rattle.components.specs.Inner.{inner}
 use Rattle.components.specs.Walks.{walking}
-use Rattle.components.proofs.Whole.{begun, entered_seen, roomy}
+use Rattle.components.proofs.Whole.{begun, entered_seen, may_enter}
 use Rattle.components.proofs.Steps.{Next, may_follow, next_follow, may_leave, next_leave}
 use Rattle.components.proofs.search.Search.explore.Given.{Over}
 use Rattle.components.proofs.search.Search.explore.Goals as goal
@@ -9,8 +9,8 @@ use Rattle.components.proofs.search.Search.explore.Goals.{After-follow, In-Some-
 
 pub enter-top-requires : goal.enter-top-requires
 enter-top-requires g c =
-    let h = roomy _ _ _ c.requires.resting c.requires.root.0 c.requires.root.1 in
-    record { state = h.0; room = (h.1, h.2) }
+    let h = may_enter _ _ _ c.requires.resting c.requires.root.0 c.requires.root.1 in
+    record { state = h.0; room = h.1 }
 
 pub loop-t-init : goal.loop-t-init
 loop-t-init g c = (rw c.enter-top.ensures (begun _ _ _ c.requires.resting c.requires.root.0 c.requires.root.1), λ s u. u)
