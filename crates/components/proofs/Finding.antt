@@ -14,7 +14,7 @@ use Rattle.kripke.proofs.Rounds.{st_own, st_more, st_join, alike_equivalence}
 use Rattle.kripke.proofs.Components.{Mutual, mutual_components, numbered-part, part-numbered, cyclic_move}
 use Rattle.components.specs.Reach.{Edge, Leads, stop, go, target}
 use Rattle.components.specs.Inner.{like, inner}
-use Rattle.components.specs.Walks.{Searched}
+use Rattle.components.specs.Search.{Searched}
 use Rattle.components.specs.Found.{Finds}
 use Rattle.components.specs.Numbers.{number, Together, Twice, Turns, Numbered}
 use Rattle.components.specs.declared.marks.Place.{Place}

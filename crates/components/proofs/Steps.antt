@@ -1,12 +1,13 @@
 -- Each step of the search keeps what is promised, and leaves less to do.
-use Rattle.std.proofs.Common.{◌≡◌, ℕ, ◌+◌, ◌<◌, ◌≤◌, min, List, [], ◌∷◌, length, set, Option, sym, refl, ap, ◌∙◌, subst, Some, None, ⊎_elim, arith}
+use Rattle.std.proofs.Common.{◌≡◌, ℕ, ◌+◌, ◌<◌, ◌≤◌, min, List, [], ◌∷◌, length, set, sym, refl, ap, ◌∙◌, subst, Some, None, ⊎_elim, arith}
 use Rattle.std.proofs.lemmas.Bool.{cases_eq, cases_lt}
 use Rattle.std.proofs.lemmas.List.{get_or-set_same, get_or-set_other, length-set}
 use Rattle.std.specs.List.{AllByRecursion}
 use Rattle.kripke.specs.Models.{Frame, Kripke, WellFormed, move}
 use Rattle.components.specs.Inner.{inner}
 use Rattle.components.specs.Reach.{target}
-use Rattle.components.specs.Walks.{Mark, Listed, Inv, Fit, Going, HasRoom, Shuts, spot, unmet, unseen, left_over, marked, lowest_top, walking, walked, entered, followed, lowered}
+use Rattle.components.specs.Walks.{Mark, Listed, Inv, Fit, spot, unmet, unseen, left_over, marked, lowest_top}
+use Rattle.components.specs.Search.{RoomForOne, Going, Shuts, walking, entered, followed, lowered}
 use Rattle.components.specs.declared.marks.Place.{Place}
 use Rattle.components.specs.declared.marks.Place.TheVariants.{Unseen, Open, Done}
 use Rattle.components.specs.declared.marks.Walk.{Walk}
@@ -38,11 +39,11 @@ module _ (G : Frame) (S : Search) (w : Walk) (on : Going G (walking S w)) where
 
   module _ (short : (s : ℕ) → length (G.row s) ≤ 4096) (t : ℕ) (inside : t < G.size)
       (there : w.next < length (G.row w.state)) (goal : target G.row w.state w.next ≡ t) where
-    pub room : spot S.place t ≡ Unseen → HasRoom S × (length S.walk.held < S.walk.room)
+    pub room : spot S.place t ≡ Unseen → RoomForOne S × (length S.walk.held < S.walk.room)
     room new =
         let some : 0 < unseen G.size (spot S.place) = unseen_some G.size (spot S.place) t inside new in (
-          (omega (arith, on.few, on.fits.numbers), omega (arith, on.rooms.0, on.fits.numbers)),
-          omega (arith, on.rooms.1, on.fits.walks),
+          (omega (arith, on.room.few, on.fits.numbers), omega (arith, on.room.numbers, on.fits.numbers)),
+          omega (arith, on.room.walk, on.fits.walks),
         )
 
     -- the top has looked at one move more
@@ -51,9 +52,7 @@ module _ (G : Frame) (S : Search) (w : Walk) (on : Going G (walking S w)) where
       going = record {
         keeps = i;
         fits = record { outside = on.fits.outside; numbers = on.fits.numbers; walks = on.fits.walks };
-        rooms = on.rooms;
-        few = on.few;
-        wide = on.wide;
+        room = on.room;
       };
       falls = omega arith;
       seen = λ s u. u;
@@ -63,7 +62,7 @@ module _ (G : Frame) (S : Search) (w : Walk) (on : Going G (walking S w)) where
     met new =
         let q : ℕ = length S.numbers.held in
         let P' : ℕ → Place = spot (set S.place t (Open q)) in
-        let put : P' t ≡ Open q = get_or-set_same S.place t (Open q) Unseen (omega (arith, on.wide)) in
+        let put : P' t ≡ Open q = get_or-set_same S.place t (Open q) Unseen (omega (arith, on.room.places)) in
         let else : (s : ℕ) → (s ≡ t → ⊥) → P' s ≡ spot S.place s = λ s ne. get_or-set_other S.place t s (Open q) Unseen ne in
         let one : unseen G.size (spot S.place) ≡ unseen G.size P' + 1 = unseen_put G.size (spot S.place) P' t inside new (ap unmet put) else in
         record {
@@ -74,9 +73,7 @@ module _ (G : Frame) (S : Search) (w : Walk) (on : Going G (walking S w)) where
               numbers = omega (arith, on.fits.numbers);
               walks = omega (arith, on.fits.walks);
             };
-            rooms = on.rooms;
-            few = on.few;
-            wide = omega (arith, on.wide, length-set S.place t (Open q));
+            room = record { few = on.room.few; places = omega (arith, on.room.places, length-set S.place t (Open q)); numbers = on.room.numbers; walk = on.room.walk };
           };
           falls = omega (arith, short t);
           seen = λ s u. ⊎_elim (λ e. absurd (unseen_open (ap P' (sym e) ∙ u) put)) (λ ne. sym (else s ne) ∙ u) (cases_eq s t);
@@ -113,9 +110,7 @@ module _ (G : Frame) (S : Search) (w : Walk) (on : Going G (walking S w)) where
               numbers = omega (arith, on.fits.numbers, at-inside);
               walks = omega (arith, on.fits.walks);
             };
-            rooms = on.rooms;
-            few = on.few;
-            wide = omega (arith, on.wide, h.wide);
+            room = record { few = on.room.few; places = omega (arith, on.room.places, h.places); numbers = on.room.numbers; walk = on.room.walk };
           };
           falls = omega arith;
           seen = turned_unseen (spot S.place) (spot S'.place) w.at S.count h.turned;
@@ -132,9 +127,7 @@ module _ (G : Frame) (S : Search) (w : Walk) (on : Going G (walking S w)) where
           going = record {
             keeps = leave G.row (spot S.place) S.numbers.held S.count w v vs i done (omega (arith, i.marks.0.1));
             fits = record { outside = f.outside; numbers = f.numbers; walks = omega (arith, f.walks) };
-            rooms = on.rooms;
-            few = on.few;
-            wide = on.wide;
+            room = on.room;
           };
           falls = omega arith;
           seen = λ s u. u;
@@ -150,9 +143,9 @@ module _ (M : Kripke) (formed : WellFormed M) (S : Search) (w : Walk) (on : Goin
     goes : (w.next < length (G.row w.state)) × (target G.row w.state w.next ≡ t) × (t < G.size)
     goes = inner_some M formed w.state w.next t (state_inside G S w on) e
 
-    pub may_follow : (t < 128) × (w.next < 4096) × (spot S.place t ≡ Unseen → HasRoom S × (length S.walk.held < S.walk.room))
+    pub may_follow : (t < 128) × (w.next < 4096) × (spot S.place t ≡ Unseen → RoomForOne S × (length S.walk.held < S.walk.room))
     may_follow = (
-      omega (arith, goes.2, on.few),
+      omega (arith, goes.2, on.room.few),
       omega (arith, goes.0, inner_short M formed w.state),
       room G S w on (inner_short M formed) t goes.2 goes.0 goes.1,
     )
@@ -162,7 +155,7 @@ module _ (M : Kripke) (formed : WellFormed M) (S : Search) (w : Walk) (on : Goin
 
   -- there is none
   pub may_leave : (S.count < 128) × (w.at ≤ length S.numbers.held) × Listed (spot S.place) S.numbers.held
-  may_leave = (omega (arith, count_inside G S w on, on.few), omega (arith, at-inside G S w on), on.keeps.stacked)
+  may_leave = (omega (arith, count_inside G S w on, on.room.few), omega (arith, at-inside G S w on), on.keeps.stacked)
 
   pub next_leave : None ≡ move (G.row w.state) w.next → (S' : Search) → (w.low ≡ w.at → Shuts (lowered S w.low) S' w.at) → ((w.low ≡ w.at → ⊥) → S' ≡ lowered S w.low) → Next G (walking S w) S'
   next_leave e S' shut passed =

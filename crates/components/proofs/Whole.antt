@@ -1,14 +1,15 @@
 -- The whole search: how a walk begins, and what stands when all walks are over.
-use Rattle.std.proofs.Common.{◌≡◌, ℕ, ◌+◌, ◌<◌, ◌≤◌, List, [], ◌∷◌, length, set, replicate, sym, refl, ap, ap₂, ◌∙◌, subst, ⊎_elim, arith}
+use Rattle.std.proofs.Common.{◌≡◌, ℕ, ◌<◌, ◌≤◌, List, [], ◌∷◌, length, set, replicate, sym, refl, ap, ap₂, ◌∙◌, subst, ⊎_elim, arith}
 use Rattle.std.proofs.lemmas.Bool.{cases_eq, cases_lt}
-use Rattle.std.proofs.lemmas.List.{get_or-set_same, get_or-set_other, get_or-replicate, get_or_past, length-replicate, length-set}
+use Rattle.std.proofs.lemmas.List.{get_or-set_same, get_or-set_other, length-replicate, length-set}
 use Rattle.kripke.specs.Models.{Frame}
-use Rattle.components.specs.Walks.{Inv, Going, Resting, Searched, HasRoom, spot, unmet, unseen, blank, entered}
+use Rattle.components.specs.Walks.{Inv, spot, unmet, unseen}
+use Rattle.components.specs.Search.{RoomForOne, Going, Resting, Searched, blank, entered}
 use Rattle.components.specs.declared.marks.Place.{Place}
 use Rattle.components.specs.declared.marks.Place.TheVariants.{Unseen, Open, Done}
 use Rattle.components.specs.declared.marks.Walk.{Walk}
 use Rattle.components.specs.declared.search.Search.{Search}
-use Rattle.components.proofs.Laws.{unseen_open, unseen_done}
+use Rattle.components.proofs.Laws.{unseen_open, unseen_done, same_everywhere}
 use Rattle.components.proofs.Unseen.{unseen_few, unseen_some, unseen_put}
 use Rattle.components.proofs.Begin.{begin}
 
@@ -32,11 +33,11 @@ module _ (G : Frame) (S : Search) (t : ℕ) (resting : Resting G S) (inside : t 
   some = unseen_some G.size (spot S.place) t inside new
 
   -- there is room for it
-  pub may_enter : (t < 128) × HasRoom S
-  may_enter = (omega (arith, on.few), (omega (arith, some, on.few, on.fits.numbers), omega (arith, some, on.rooms.0, on.fits.numbers)))
+  pub may_enter : (t < 128) × RoomForOne S
+  may_enter = (omega (arith, on.room.few), (omega (arith, some, on.room.few, on.fits.numbers), omega (arith, some, on.room.numbers, on.fits.numbers)))
 
   put : spot (set S.place t (Open 0)) t ≡ Open 0
-  put = get_or-set_same S.place t (Open 0) Unseen (omega (arith, on.wide))
+  put = get_or-set_same S.place t (Open 0) Unseen (omega (arith, on.room.places))
 
   else : (s : ℕ) → (s ≡ t → ⊥) → spot (set S.place t (Open 0)) s ≡ spot S.place s
   else s ne = get_or-set_other S.place t s (Open 0) Unseen ne
@@ -53,9 +54,12 @@ module _ (G : Frame) (S : Search) (t : ℕ) (resting : Resting G S) (inside : t 
           numbers = omega (arith, one, on.fits.numbers);
           walks = omega (arith, one, on.fits.walks);
         };
-        rooms = on.rooms;
-        few = on.few;
-        wide = omega (arith, on.wide, length-set S.place t (Open 0));
+        room = record {
+          few = on.room.few;
+          places = omega (arith, on.room.places, length-set S.place t (Open 0));
+          numbers = on.room.numbers;
+          walk = on.room.walk;
+        };
       })
 
 -- a state that is entered is met, and the others are as they were
@@ -68,14 +72,10 @@ entered_seen S S' t l e s u' =
     (λ ne. (sym (get_or-set_other S.place t s (Open q) Unseen ne) ∙ u, ne))
     (cases_eq s t)
 
--- a table of which nothing is met
-unmet_all : (k : ℕ) (s : ℕ) → spot (replicate k Unseen) s ≡ Unseen
-unmet_all k s = ⊎_elim (λ l. get_or-replicate k s Unseen Unseen l) (λ l. get_or_past (replicate k Unseen) s Unseen (omega (arith, length-replicate k Unseen))) (cases_lt s k)
-
 -- at the start
 pub resting_blank : (G : Frame) (numbers walks : ℕ) → G.size ≤ 128 → G.size ≤ numbers → G.size ≤ walks → Resting G (blank numbers walks)
 resting_blank G numbers walks few n w =
-    let u = unmet_all 128 in (
+    let u : (s : ℕ) → spot (replicate 128 Unseen) s ≡ Unseen = same_everywhere 128 Unseen in (
       record {
         keeps = record {
           climbs = tt;
@@ -95,9 +95,7 @@ resting_blank G numbers walks few n w =
           numbers = omega (arith, unseen_few G.size (spot (replicate 128 Unseen)));
           walks = omega (arith, unseen_few G.size (spot (replicate 128 Unseen)));
         };
-        rooms = (n, w);
-        few = few;
-        wide = omega (arith, length-replicate 128 Unseen);
+        room = record { few = few; places = omega (arith, length-replicate 128 Unseen); numbers = n; walk = w };
       },
       refl,
     )

@@ -1,13 +1,11 @@
--- What the component walk keeps true of its places, its two stacks and its count.
-use Rattle.std.specs.Prelude.{◌≡◌, ℕ, zero, suc, ◌+◌, ◌-◌, ◌*◌, ◌<◌, ◌≤◌, min, ◌⊎◌, List, [], ◌∷◌, length, replicate, Option, slice_index_or, slice_set}
-use Rattle.std.specs.List.{AllByRecursion, cons_option}
+-- What a walk keeps true of the places of its states, of its two stacks and of its count.
+use Rattle.std.specs.Prelude.{◌≡◌, ℕ, zero, suc, ◌+◌, ◌-◌, ◌*◌, ◌<◌, ◌≤◌, min, ◌⊎◌, List, [], ◌∷◌, length, slice_index_or}
+use Rattle.std.specs.List.{AllByRecursion}
 use Rattle.kripke.specs.Models.{Frame}
-use Rattle.components.specs.Held.{pushed}
 use Rattle.components.specs.Reach.{Leads, target}
 use Rattle.components.specs.declared.marks.Place.{Place}
 use Rattle.components.specs.declared.marks.Place.TheVariants.{Unseen, Open, Done}
 use Rattle.components.specs.declared.marks.Walk.{Walk}
-use Rattle.components.specs.declared.search.Search.{Search}
 
 -- of some entry
 abbrev pub Any : {X : Type 0} → (X → Type 0) → List X → Type 0
@@ -104,53 +102,6 @@ pub record Turned (P P' : ℕ → Place) (a c : ℕ) : Type 0 where
   pub done : (s d : ℕ) → P s ≡ Done d → P' s ≡ Done d
   pub unseen : (s : ℕ) → P s ≡ Unseen → P' s ≡ Unseen
 
--- what stands from place a up is a component, and nothing else is altered
-pub record Shuts (S S' : Search) (a : ℕ) : Type 0 where
-  pub turned : Turned (spot S.place) (spot S'.place) a S.count
-  pub stacked : Listed (spot S'.place) S'.numbers.held
-  pub len : length S'.numbers.held ≡ a
-  pub wide : length S'.place ≡ length S.place
-  pub rest : S' ≡ record S { place = S'.place; count = S.count + 1; numbers = record S.numbers { held = S'.numbers.held } }
-
--- a search that has met nothing, with room for so many numbers and walk records
-abbrev pub blank : (numbers walks : ℕ) → Search
-blank numbers walks = record {
-  place = replicate 128 Unseen;
-  count = 0;
-  numbers = record { held = []; room = numbers };
-  walk = record { held = []; room = walks };
-}
-
--- a search with w on its walk
-abbrev pub walking : Search → Walk → Search
-walking S w = record S { walk = pushed S.walk w }
-
--- a search that walks on from a state, if there is one
-abbrev pub walked : Search → Option Walk → Search
-walked S o = record S { walk = record S.walk { held = cons_option o S.walk.held } }
-
--- a search with a state put onto both stacks
-abbrev pub entered : Search → ℕ → Search
-entered S s = record S {
-  place = slice_set S.place s (Open (length S.numbers.held));
-  numbers = pushed S.numbers s;
-  walk = pushed S.walk (fresh s (length S.numbers.held));
-}
-
--- another state can be met
-abbrev pub HasRoom : Search → Type 0
-HasRoom S = (length S.numbers.held < 128) × (length S.numbers.held < S.numbers.room)
-
--- a search after a move from w to t, where t stands at a place
-abbrev pub followed : Place → Search → Walk → ℕ → Search
-followed Unseen S w t = entered (walking S (marked w w.low)) t
-followed (Open q) S w t = walking S (marked w (min w.low q))
-followed (Done d) S w t = walking S (marked w w.low)
-
--- a search with a low mark handed on to the top of its walk
-abbrev pub lowered : Search → ℕ → Search
-lowered S l = record S { walk = record S.walk { held = lowest_top S.walk.held l } }
-
 -- how many of the first n states are not met
 abbrev pub unmet : Place → ℕ
 unmet Unseen = 1
@@ -175,24 +126,3 @@ pub record Fit (n : ℕ) (P : ℕ → Place) (nums : List ℕ) (ws : List Walk) 
   pub outside : (s : ℕ) → n ≤ s → P s ≡ Unseen
   pub numbers : unseen n P + length nums + c ≤ n
   pub walks : unseen n P + length ws ≤ n
-
--- the search goes well
-pub record Going (G : Frame) (S : Search) : Type 0 where
-  pub keeps : Inv G.row (spot S.place) S.numbers.held S.walk.held S.count
-  pub fits : Fit G.size (spot S.place) S.numbers.held S.walk.held S.count
-  pub rooms : (G.size ≤ S.numbers.room) × (G.size ≤ S.walk.room)
-  pub few : G.size ≤ 128
-  pub wide : G.size ≤ length S.place
-
--- it goes well, and no walk is on
-abbrev pub Resting : Frame → Search → Type 0
-Resting G S = Going G S × (S.walk.held ≡ [])
-
--- the search is over: each state has one of c numbers, each number is some state's, and two states have the same
--- exactly where moves lead both ways
-pub record Searched (G : Frame) (place : List Place) (c : ℕ) : Type 0 where
-  pub few : c ≤ G.size
-  pub each : (s : ℕ) → s < G.size → (d : ℕ) × (spot place s ≡ Done d) × (d < c)
-  pub used : (d : ℕ) → d < c → (s : ℕ) × (s < G.size) × (spot place s ≡ Done d)
-  pub same : (s t d : ℕ) → spot place s ≡ Done d → spot place t ≡ Done d → Leads G.row s t × Leads G.row t s
-  pub apart : (s t d e : ℕ) → spot place s ≡ Done d → spot place t ≡ Done e → Leads G.row s t → Leads G.row t s → d ≡ e

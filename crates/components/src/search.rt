@@ -1,7 +1,8 @@
 //! The search: one depth-first walk with two stacks in lent memory.
 ghost use Rattle.std.specs.Prelude.{◌≡◌, ℕ, ◌<◌, ◌≤◌, [], length, ◌≢◌};
 ghost use Rattle.components.specs.Inner.{inner};
-ghost use Rattle.components.specs.Walks.{spot, Listed, Resting, Searched, HasRoom, Shuts, blank, walking, walked, entered, followed, lowered};
+ghost use Rattle.components.specs.Walks.{spot, Listed};
+ghost use Rattle.components.specs.Search.{blank, walking, walked, entered, followed, lowered, Shuts, RoomForOne, Resting, Searched};
 ghost use Rattle.components.specs.declared.marks.Place.TheVariants.{Unseen};
 
 use crate::marks::{Place, Walk};
@@ -66,7 +67,7 @@ impl<'a> Search<'a> {
     // Meets a state: the walk goes on from it.
     fn enter(&mut self, s: u16) -> Walk
         requires state { s < 128 }
-        requires room { HasRoom self.old }
+        requires room { RoomForOne self.old }
         ensures { walking self.new result ≡ entered self.old s }
     {
         let at = self.numbers.len() as u8;
@@ -84,7 +85,7 @@ impl<'a> Search<'a> {
     fn follow(&mut self, top: &mut Walk, t: u16)
         requires state { t < 128 }
         requires short { top.old.next < 4096 }
-        requires room { spot self.old.place t ≡ Unseen → HasRoom self.old × (length self.old.walk.held < self.old.walk.room) }
+        requires room { spot self.old.place t ≡ Unseen → RoomForOne self.old × (length self.old.walk.held < self.old.walk.room) }
         ensures { walking self.new top.new ≡ followed (spot self.old.place t) self.old top.old t }
     {
         top.next += 1;

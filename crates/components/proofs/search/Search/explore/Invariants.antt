@@ -1,6 +1,7 @@
 use Rattle.std.proofs.Common.{◌≡◌, ℕ, ◌∷◌}
 use Rattle.components.specs.Inner.{inner}
-use Rattle.components.specs.Walks.{Going, left_over, spot, walking}
+use Rattle.components.specs.Walks.{left_over, spot}
+use Rattle.components.specs.Search.{Going, walking}
 use Rattle.components.specs.declared.marks.Place.TheVariants.{Unseen}
 use Rattle.components.proofs.search.Search.explore.Given as goal
 

@@ -1,6 +1,7 @@
 use Rattle.std.proofs.Common.{◌≡◌, ℕ, ◌<◌}
 use Rattle.components.specs.Inner.{inner}
-use Rattle.components.specs.Walks.{Resting, spot}
+use Rattle.components.specs.Walks.{spot}
+use Rattle.components.specs.Search.{Resting}
 use Rattle.components.specs.declared.marks.Place.TheVariants.{Unseen}
 use Rattle.components.proofs.search.Search.walk_all.Given as goal
 
