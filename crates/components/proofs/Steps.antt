@@ -53,6 +53,7 @@ module _ (G : Frame) (S : Search) (w : Walk) (on : Going G (walking S w)) where
         keeps = i;
         fits = record { outside = on.fits.outside; numbers = on.fits.numbers; walks = on.fits.walks };
         room = on.room;
+        wide = on.wide;
       };
       falls = omega arith;
       seen = λ s u. u;
@@ -62,7 +63,7 @@ module _ (G : Frame) (S : Search) (w : Walk) (on : Going G (walking S w)) where
     met new =
         let q : ℕ = length S.numbers.held in
         let P' : ℕ → Place = spot (set S.place t (Open q)) in
-        let put : P' t ≡ Open q = get_or-set_same S.place t (Open q) Unseen (omega (arith, on.room.places)) in
+        let put : P' t ≡ Open q = get_or-set_same S.place t (Open q) Unseen (omega (arith, on.wide)) in
         let else : (s : ℕ) → (s ≡ t → ⊥) → P' s ≡ spot S.place s = λ s ne. get_or-set_other S.place t s (Open q) Unseen ne in
         let one : unseen G.size (spot S.place) ≡ unseen G.size P' + 1 = unseen_put G.size (spot S.place) P' t inside new (ap unmet put) else in
         record {
@@ -73,7 +74,8 @@ module _ (G : Frame) (S : Search) (w : Walk) (on : Going G (walking S w)) where
               numbers = omega (arith, on.fits.numbers);
               walks = omega (arith, on.fits.walks);
             };
-            room = record { few = on.room.few; places = omega (arith, on.room.places, length-set S.place t (Open q)); numbers = on.room.numbers; walk = on.room.walk };
+            room = on.room;
+            wide = omega (arith, on.wide, length-set S.place t (Open q));
           };
           falls = omega (arith, short t);
           seen = λ s u. ⊎_elim (λ e. absurd (unseen_open (ap P' (sym e) ∙ u) put)) (λ ne. sym (else s ne) ∙ u) (cases_eq s t);
@@ -110,7 +112,8 @@ module _ (G : Frame) (S : Search) (w : Walk) (on : Going G (walking S w)) where
               numbers = omega (arith, on.fits.numbers, at-inside);
               walks = omega (arith, on.fits.walks);
             };
-            room = record { few = on.room.few; places = omega (arith, on.room.places, h.places); numbers = on.room.numbers; walk = on.room.walk };
+            room = on.room;
+            wide = omega (arith, on.wide, h.wide);
           };
           falls = omega arith;
           seen = turned_unseen (spot S.place) (spot S'.place) w.at S.count h.turned;
@@ -128,6 +131,7 @@ module _ (G : Frame) (S : Search) (w : Walk) (on : Going G (walking S w)) where
             keeps = leave G.row (spot S.place) S.numbers.held S.count w v vs i done (omega (arith, i.marks.0.1));
             fits = record { outside = f.outside; numbers = f.numbers; walks = omega (arith, f.walks) };
             room = on.room;
+            wide = on.wide;
           };
           falls = omega arith;
           seen = λ s u. u;

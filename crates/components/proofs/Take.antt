@@ -13,7 +13,7 @@ use Rattle.components.proofs.Laws.{at-below, unseen_open, open_done, open_open}
 pub record Taken (S₀ S : Search) : Type 0 where
   pub turned : Turned (spot S₀.place) (spot S.place) (length S.numbers.held) S₀.count
   pub stacked : Listed (spot S.place) S.numbers.held
-  pub places : length S.place ≡ length S₀.place
+  pub wide : length S.place ≡ length S₀.place
   pub rest : S ≡ record S₀ { place = S.place; numbers = record S₀.numbers { held = S.numbers.held } }
 
 -- none is taken yet
@@ -26,7 +26,7 @@ take_none S at = record {
     unseen = λ s o. o;
   };
   stacked = at;
-  places = refl;
+  wide = refl;
   rest = refl;
 }
 
@@ -95,6 +95,6 @@ module _ (S₀ S : Search) (x : ℕ) (numbers : Held ℕ) (off : S.numbers ≡ p
               (λ ne. ⊎_elim (λ q. absurd (ne (sym q.0))) (λ q. q) (stacked.listed s j (sym (other s ne) ∙ o)))
               (cases_eq s x);
         };
-        places = length-set S.place x (Done S.count) ∙ h.places;
+        wide = length-set S.place x (Done S.count) ∙ h.wide;
         rest = rw (count, walk, room) refl;
       }

@@ -37,7 +37,7 @@ module _ (G : Frame) (S : Search) (t : ℕ) (resting : Resting G S) (inside : t 
   may_enter = (omega (arith, on.room.few), (omega (arith, some, on.room.few, on.fits.numbers), omega (arith, some, on.room.numbers, on.fits.numbers)))
 
   put : spot (set S.place t (Open 0)) t ≡ Open 0
-  put = get_or-set_same S.place t (Open 0) Unseen (omega (arith, on.room.places))
+  put = get_or-set_same S.place t (Open 0) Unseen (omega (arith, on.wide))
 
   else : (s : ℕ) → (s ≡ t → ⊥) → spot (set S.place t (Open 0)) s ≡ spot S.place s
   else s ne = get_or-set_other S.place t s (Open 0) Unseen ne
@@ -54,12 +54,8 @@ module _ (G : Frame) (S : Search) (t : ℕ) (resting : Resting G S) (inside : t 
           numbers = omega (arith, one, on.fits.numbers);
           walks = omega (arith, one, on.fits.walks);
         };
-        room = record {
-          few = on.room.few;
-          places = omega (arith, on.room.places, length-set S.place t (Open 0));
-          numbers = on.room.numbers;
-          walk = on.room.walk;
-        };
+        room = on.room;
+        wide = omega (arith, on.wide, length-set S.place t (Open 0));
       })
 
 -- a state that is entered is met, and the others are as they were
@@ -95,7 +91,8 @@ resting_blank G numbers walks few n w =
           numbers = omega (arith, unseen_few G.size (spot (replicate 128 Unseen)));
           walks = omega (arith, unseen_few G.size (spot (replicate 128 Unseen)));
         };
-        room = record { few = few; places = omega (arith, length-replicate 128 Unseen); numbers = n; walk = w };
+        room = record { few = few; numbers = n; walk = w };
+        wide = omega (arith, length-replicate 128 Unseen);
       },
       refl,
     )

@@ -50,7 +50,7 @@ pub record Shuts (S S' : Search) (a : ℕ) : Type 0 where
   pub turned : Turned (spot S.place) (spot S'.place) a S.count
   pub stacked : Listed (spot S'.place) S'.numbers.held
   pub len : length S'.numbers.held ≡ a
-  pub places : length S'.place ≡ length S.place
+  pub wide : length S'.place ≡ length S.place
   pub rest : S' ≡ record S { place = S'.place; count = S.count + 1; numbers = record S.numbers { held = S'.numbers.held } }
 
 -- there is room for one state more
@@ -61,7 +61,6 @@ RoomForOne S = (length S.numbers.held < 128) × (length S.numbers.held < S.numbe
 abbrev pub RoomForAll : Frame → Search → Type 0
 RoomForAll G S = record {
   few : G.size ≤ 128;
-  places : G.size ≤ length S.place;
   numbers : G.size ≤ S.numbers.room;
   walk : G.size ≤ S.walk.room;
 }
@@ -71,6 +70,7 @@ pub record Going (G : Frame) (S : Search) : Type 0 where
   pub keeps : Inv G.row (spot S.place) S.numbers.held S.walk.held S.count
   pub fits : Fit G.size (spot S.place) S.numbers.held S.walk.held S.count
   pub room : RoomForAll G S
+  pub wide : G.size ≤ length S.place
 
 -- what holds between any two walks
 abbrev pub Resting : Frame → Search → Type 0

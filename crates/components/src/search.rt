@@ -10,8 +10,8 @@ use crate::moves::inner_move;
 use crate::stack::Stack;
 use models::Model;
 
-// Where each state stands, how many components are closed, and the stacks: the states that are open, in the order that
-// they were met in, and those of them that the walk still looks on from.
+// Where each state stands, how many components are closed, and two stacks: the open states in the order that they were
+// met in, and the way that the walk came. The state that it is at stands beside them.
 #[derive(Drop)]
 pub struct Search<'a> {
     pub place: [Place; 128],

@@ -78,10 +78,7 @@ impl<'a, T: Copy> Stack<'a, T> {
     pub fn top(&self) -> Option<T>
         ensures { MatchOption result (self.now.held ≡ []) (λ x. self.now.held ≡ x ∷ drop 1 self.now.held) }
     {
-        if self.len == 0 {
-            return None;
-        }
-        Some(self.cells[self.len - 1])
+        self.cells[..self.len].last().copied()
     }
 
     /// Writes `x` over the newest entry; an empty stack hands it back.

@@ -48,5 +48,5 @@ returns-in-None-leave g c =
     let n = next_leave _ (g.M.Model.formed c.args.model.now) _ _ c.loop-t.invariant.0 c.in-None.ensures _ c.in-None-leave.ensures.shut c.in-None-leave.ensures.passed in
     record {
       resting = (n.going, c.in-None-leave.ensures.over refl);
-      seen = λ s u. entered_seen _ _ _ (omega (arith, c.requires.root.0, c.requires.resting.0.room.places)) c.enter-top.ensures s (c.loop-t.invariant.1 s (n.seen s u));
+      seen = λ s u. entered_seen _ _ _ (omega (arith, c.requires.root.0, c.requires.resting.0.wide)) c.enter-top.ensures s (c.loop-t.invariant.1 s (n.seen s u));
     }
