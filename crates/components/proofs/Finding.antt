@@ -14,7 +14,7 @@ use Rattle.kripke.proofs.Rounds.{st_own, st_more, st_join, alike_equivalence}
 use Rattle.kripke.proofs.Components.{Mutual, mutual_components, numbered-part, part-numbered, cyclic_move}
 use Rattle.components.specs.Reach.{Edge, Leads, stop, go, target}
 use Rattle.components.specs.Inner.{like, inner}
-use Rattle.components.specs.Walks.{Searched}
+use Rattle.components.specs.Search.{Searched}
 use Rattle.components.specs.Found.{Finds}
 use Rattle.components.specs.Numbers.{number, Together, Twice, Turns, Numbered}
 use Rattle.components.specs.declared.marks.Place.{Place}
@@ -135,12 +135,12 @@ module _ (F : Frame) (L : ℕ → ℕ → Type 0) (part : List ℕ) (count : ℕ
 -- the answer of an accepted search, of a model with n states
 pub finds : (M : Kripke) → WellFormed M → (place : List Place) (c : ℕ) → Searched (inner M) place c →
     (n : ℕ) → n ≡ M.frame.size → (part part' : List ℕ) (count : ℕ) (many all : Set) → Numbered place n part part' count many →
-    ((i : ℕ) → In all i ↔ (In many i ⊎ Turns M.frame n part' i)) → Finds M part part' (record { count = count; cyclic = all })
+    ((i : ℕ) → In all i ↔ (In many i ⊎ Turns M.frame M.frame.size part' i)) → Finds M part part' (record { count = count; cyclic = all })
 finds M formed place c S n e part part' count many all N more =
     let N' : Numbered place M.frame.size part part' count many = subst (λ x. Numbered place x part part' count many) e N in
     let K = components M formed place c S part part' count many N' in
     record {
       components = K;
-      cyclic = λ i. cyclic M.frame (Alike M) part' count K i many all (N'.twice i) (subst (λ x. In all i ↔ (In many i ⊎ Turns M.frame x part' i)) e (more i));
+      cyclic = λ i. cyclic M.frame (Alike M) part' count K i many all (N'.twice i) (more i);
       rest = N'.rest;
     }

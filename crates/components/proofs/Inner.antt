@@ -1,23 +1,18 @@
 -- The moves between alike states.
-use Rattle.std.proofs.Common.{◌≡◌, ℕ, ◌<◌, ◌≤◌, Bool, true, false, cond, length, get_or, Some, None, Decides, sym, refl, ◌∙◌, subst, ⊎_elim, arith}
+use Rattle.std.proofs.Common.{◌≡◌, ℕ, ◌<◌, ◌≤◌, cond, length, get_or, Some, None, Decides, sym, refl, ◌∙◌, subst, ⊎_elim, arith}
 use mathlib.Core.Bool.{beq}
+use Rattle.std.specs.Cmp.{booleans_Decides}
 use Rattle.std.proofs.lemmas.List.{length-map, get_or-map}
 use Rattle.std.proofs.lemmas.Bool.Decides.{nat_tests, Decides-below_and, Decides-and, Decides-ltb, Decides-like}
-use Rattle.std.proofs.lemmas.Bool.{cases_lt, cond_both, true≢false, false≢true}
+use Rattle.std.proofs.lemmas.Bool.{cases_lt, cond_both}
 use Rattle.kripke.specs.Words.{Words}
 use Rattle.kripke.specs.Models.{Kripke, WellFormed, Alike, move, nowhere}
 use Rattle.kripke.proofs.Rows.{move_some}
 use Rattle.components.specs.Inner.{same_below, like, inner}
 use Rattle.components.specs.Reach.{target}
 
-same_bit : (a b : Bool) → Decides (beq a b) (a ≡ b)
-same_bit true true = ((λ e. refl), (λ e. refl))
-same_bit true false = ((λ e. absurd (false≢true e)), (λ e. absurd (true≢false e)))
-same_bit false true = ((λ e. absurd (false≢true e)), (λ e. absurd (false≢true e)))
-same_bit false false = ((λ e. refl), (λ e. refl))
-
 same_words : (v w : Words) (n : ℕ) → Decides (same_below v w n) ((a : ℕ) → a < n → v a ≡ w a)
-same_words v w n = Decides-below_and (λ a. beq (v a) (w a)) (λ a. v a ≡ w a) (same_below v w) (λ a. same_bit (v a) (w a)) refl (λ _. refl) n
+same_words v w n = Decides-below_and (λ a. beq (v a) (w a)) (λ a. v a ≡ w a) (same_below v w) (λ a. booleans_Decides (v a) (w a)) refl (λ _. refl) n
 
 -- no word above the count holds anywhere
 pub like_tells : (M : Kripke) → WellFormed M → (s t : ℕ) → Decides (like M s t) (Alike M s t)

@@ -1,5 +1,7 @@
 -- Laws of paths, places and walks.
-use Rattle.std.proofs.Common.{◌≡◌, ℕ, ◌<◌, ◌≤◌, List, [], ◌∷◌, length, inl, inr, ⊎_elim, arith}
+use Rattle.std.proofs.Common.{◌≡◌, ℕ, ◌<◌, ◌≤◌, List, [], ◌∷◌, length, get_or, replicate, inl, inr, ⊎_elim, arith}
+use Rattle.std.proofs.lemmas.Bool.{cases_lt}
+use Rattle.std.proofs.lemmas.List.{get_or-replicate, get_or_past, length-replicate}
 use Rattle.std.specs.List.{AllByRecursion}
 use Rattle.components.specs.Reach.{Reach, Leads, stop, go}
 use Rattle.components.specs.Walks.{Any, Mark, Back, At, Inv}
@@ -61,3 +63,7 @@ to_top rows P nums w ws c I s j o = ⊎_elim (λ b. b.1) down (I.back s j o)
 
     down : Back rows ws s j → Leads rows s w.state
     down b = any-all both ws (pairs ws I.climbs.0 I.marks.1) b
+
+-- a table of one value has it everywhere, and so does what is past it
+pub same_everywhere : {X : Type 0} (n : ℕ) (x : X) (i : ℕ) → get_or (replicate n x) i x ≡ x
+same_everywhere n x i = ⊎_elim (get_or-replicate n i x x) (λ past. get_or_past (replicate n x) i x (omega (arith, length-replicate n x))) (cases_lt i n)

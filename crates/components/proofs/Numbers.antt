@@ -1,7 +1,7 @@
 -- Numbers by first member, given to one state after the other.
-use Rattle.std.proofs.Common.{◌≡◌, ℕ, ◌+◌, ◌<◌, ◌≤◌, ◌⊎◌, ◌↔◌, List, length, get_or, set, replicate, Some, None, Option, sym, refl, ap, ◌∙◌, inl, inr, ⊎_elim, arith}
-use Rattle.std.proofs.lemmas.List.{get_or-set_same, get_or-set_other, get_or-replicate, get_or_past, length-replicate, length-set}
-use Rattle.std.proofs.lemmas.Bool.{cases_eq, cases_lt}
+use Rattle.std.proofs.Common.{◌≡◌, ℕ, ◌+◌, ◌<◌, ◌≤◌, ◌⊎◌, ◌↔◌, List, length, get_or, set, replicate, take, Some, None, Option, sym, refl, ap, ◌∙◌, inl, inr, ⊎_elim, arith}
+use Rattle.std.proofs.lemmas.List.{get_or-set_same, get_or-set_other, get_or-take, length-set, length-take}
+use Rattle.std.proofs.lemmas.Bool.{cases_eq}
 use Rattle.sets.specs.declared.Set.{Set}
 use Rattle.sets.specs.Sets.{In, none}
 use Rattle.sets.proofs.Bits.{none_in}
@@ -9,7 +9,8 @@ use Rattle.kripke.proofs.Numbering.{number-none, number_old, number_new}
 use Rattle.components.specs.Walks.{spot}
 use Rattle.components.specs.Numbers.{number, Together, Twice, Numbered}
 use Rattle.components.specs.declared.marks.Place.{Place}
-use Rattle.components.specs.declared.marks.Place.TheVariants.{Done}
+use Rattle.components.specs.declared.marks.Place.TheVariants.{Unseen, Done}
+use Rattle.components.proofs.Laws.{same_everywhere}
 
 -- the first s states have their numbers, and given has the number of each component that has one
 pub record Giving (place : List Place) (s : ℕ) (part₀ part : List ℕ) (given : List (Option ℕ)) (count : ℕ) (many : Set) : Type 0 where
@@ -28,11 +29,15 @@ some_same e = cc
 done_same : {p : Place} {c d : ℕ} → p ≡ Done c → p ≡ Done d → c ≡ d
 done_same p q = cc
 
-abbrev ungiven : Option ℕ
-ungiven = None
-
-blank : (k c : ℕ) → get_or (replicate k ungiven) c None ≡ None
-blank k c = ⊎_elim (λ l. get_or-replicate k c ungiven None l) (λ l. get_or_past (replicate k ungiven) c None (omega (arith, length-replicate k ungiven))) (cases_lt c k)
+-- the component of a state that the loop meets, one of those that are done
+pub done_at : (place : List Place) (n s c : ℕ) → ((t : ℕ) → t < n → (d : ℕ) × (spot place t ≡ Done d) × (d < 128)) →
+    s < length (take n place) → get_or (take n place) s Unseen ≡ Done c → (spot place s ≡ Done c) × (c < 128)
+done_at place n s c done there is =
+    let l : s < n = omega (arith, length-take n place) in
+    let at : spot place s ≡ Done c = sym (get_or-take n place s Unseen l) ∙ is in
+    let d = done s l in
+    let same : d.0 ≡ c = done_same d.1 at in
+    (at, omega (arith, d.2))
 
 pub giving_none : (place : List Place) (part : List ℕ) → Giving place 0 part part (replicate 128 None) 0 none
 giving_none place part = record {
@@ -41,7 +46,7 @@ giving_none place part = record {
     rest = λ s l. refl;
     twice = λ i. ((λ h. absurd (none_in i h)), (λ h. absurd (omega (arith, h.3))));
   };
-  of = λ c i e. absurd (none_some (blank 128 c) e);
+  of = λ c i e. absurd (none_some (same_everywhere 128 None c) e);
   has = λ t c l. absurd (omega arith);
   few = omega arith;
   room = refl;

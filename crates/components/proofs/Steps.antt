@@ -1,125 +1,170 @@
 -- Each step of the search keeps what is promised, and leaves less to do.
-use Rattle.std.proofs.Common.{◌≡◌, ℕ, ◌+◌, ◌<◌, ◌≤◌, min, List, [], ◌∷◌, length, drop, set, sym, refl, ap, ◌∙◌, subst, ⊎_elim, arith}
+use Rattle.std.proofs.Common.{◌≡◌, ℕ, ◌+◌, ◌<◌, ◌≤◌, min, List, [], ◌∷◌, length, set, sym, refl, ap, ◌∙◌, subst, Some, None, ⊎_elim, arith}
 use Rattle.std.proofs.lemmas.Bool.{cases_eq, cases_lt}
-use Rattle.std.proofs.lemmas.List.{get_or-set_same, get_or-set_other}
-use Rattle.kripke.specs.Models.{Frame}
+use Rattle.std.proofs.lemmas.List.{get_or-set_same, get_or-set_other, length-set}
+use Rattle.std.specs.List.{AllByRecursion}
+use Rattle.kripke.specs.Models.{Frame, Kripke, WellFormed, move}
+use Rattle.components.specs.Inner.{inner}
 use Rattle.components.specs.Reach.{target}
-use Rattle.components.specs.Walks.{Inv, Fit, Going, Next, Follows, Shuts, spot, unmet, unseen, marked, fresh, lowest_top}
+use Rattle.components.specs.Walks.{Mark, Listed, Inv, Fit, spot, unmet, unseen, left_over, marked, lowest_top}
+use Rattle.components.specs.Search.{RoomForOne, Going, Shuts, walking, entered, followed, lowered}
 use Rattle.components.specs.declared.marks.Place.{Place}
 use Rattle.components.specs.declared.marks.Place.TheVariants.{Unseen, Open, Done}
 use Rattle.components.specs.declared.marks.Walk.{Walk}
+use Rattle.components.specs.declared.search.Search.{Search}
 use Rattle.components.proofs.Laws.{at-below, unseen_open}
 use Rattle.components.proofs.Unseen.{unseen_some, unseen_put, turned_count, turned_unseen}
 use Rattle.components.proofs.Discover.{discover}
 use Rattle.components.proofs.Look.{pass_done, pass_open}
 use Rattle.components.proofs.Leave.{leave, not_alone}
 use Rattle.components.proofs.Close.{close}
+use Rattle.components.proofs.Inner.{inner_short, inner_some, inner-none}
 
--- a fact about three things, at three that are equal to them
-moved : {A B C : Type 0} (Q : A → B → C → Type 0) {a a' : A} {b b' : B} {c c' : C} → a' ≡ a → b' ≡ b → c' ≡ c → Q a b c → Q a' b' c'
-moved Q p q r h = rw p (rw q (rw r h))
+-- a step: the search goes on well, has less left to do, and forgets no state
+pub record Next (G : Frame) (S S' : Search) : Type 0 where
+  pub going : Going G S'
+  pub falls : left_over G (spot S'.place) S'.walk.held < left_over G (spot S.place) S.walk.held
+  pub seen : (s : ℕ) → spot S'.place s ≡ Unseen → spot S.place s ≡ Unseen
 
--- the walk is a list that is known to have the top w
-module _ (G : Frame) (place : List Place) (c : ℕ) (nums : List ℕ) (all : List Walk) (w : Walk)
-    (top : all ≡ w ∷ drop 1 all) (on : Going G place c nums all) where
-  I : Inv G.row (spot place) nums (w ∷ drop 1 all) c
-  I = subst (λ x. Inv G.row (spot place) nums x c) top on.keeps
-
-  F : Fit G.size (spot place) nums (w ∷ drop 1 all) c
-  F = subst (λ x. Fit G.size (spot place) nums x c) top on.fits
-
+-- w is the top of the walk
+module _ (G : Frame) (S : Search) (w : Walk) (on : Going G (walking S w)) where
   pub state_inside : w.state < G.size
-  state_inside = ⊎_elim (λ lt. lt) (λ ge. absurd (unseen_open (F.outside w.state ge) I.marks.0.0)) (cases_lt w.state G.size)
+  state_inside = ⊎_elim (λ lt. lt) (λ ge. absurd (unseen_open (on.fits.outside w.state ge) on.keeps.marks.0.0)) (cases_lt w.state G.size)
 
-  pub at-inside : w.at < length nums
-  at-inside = at-below nums w.state w.at (I.stacked.listed w.state w.at I.marks.0.0)
+  pub at-inside : w.at < length S.numbers.held
+  at-inside = at-below S.numbers.held w.state w.at (on.keeps.stacked.listed w.state w.at on.keeps.marks.0.0)
 
-  pub count_inside : c < G.size
-  count_inside = omega (arith, at-inside, F.numbers)
+  pub count_inside : S.count < G.size
+  count_inside = omega (arith, at-inside, on.fits.numbers)
 
-  pub space : (t : ℕ) → t < G.size → spot place t ≡ Unseen → (length nums < G.size) × (length all < G.size)
-  space t l u = let h : 0 < unseen G.size (spot place) = unseen_some G.size (spot place) t l u in (omega (arith, on.fits.numbers), omega (arith, on.fits.walks))
-
-  -- what a step has to show, with the top in sight
-  step : (place' : List Place) (c' : ℕ) (nums' : List ℕ) (ws' : List Walk) → Next G place (w ∷ drop 1 all) place' c' nums' ws' → Next G place all place' c' nums' ws'
-  step place' c' nums' ws' h = subst (λ m. Next G place m place' c' nums' ws') (sym top) h
-
-  module _ (short : (s : ℕ) → length (G.row s) ≤ 4096) (wide : G.size ≤ length place) (t : ℕ) (inside : t < G.size)
+  module _ (short : (s : ℕ) → length (G.row s) ≤ 4096) (t : ℕ) (inside : t < G.size)
       (there : w.next < length (G.row w.state)) (goal : target G.row w.state w.next ≡ t) where
-    abbrev entered : List Place
-    entered = set place t (Open (length nums))
+    pub room : spot S.place t ≡ Unseen → RoomForOne S × (length S.walk.held < S.walk.room)
+    room new =
+        let some : 0 < unseen G.size (spot S.place) = unseen_some G.size (spot S.place) t inside new in (
+          (omega (arith, on.room.few, on.fits.numbers), omega (arith, on.room.numbers, on.fits.numbers)),
+          omega (arith, on.room.walk, on.fits.walks),
+        )
 
-    put : spot entered t ≡ Open (length nums)
-    put = get_or-set_same place t (Open (length nums)) Unseen (omega arith)
-
-    else : (s : ℕ) → (s ≡ t → ⊥) → spot entered s ≡ spot place s
-    else s ne = get_or-set_other place t s (Open (length nums)) Unseen ne
-
-    met : spot place t ≡ Unseen → Next G place (w ∷ drop 1 all) entered c (t ∷ nums) (fresh t (length nums) ∷ marked w w.low ∷ drop 1 all)
-    met new =
-        let one : unseen G.size (spot place) ≡ unseen G.size (spot entered) + 1 = unseen_put G.size (spot place) (spot entered) t inside new (ap unmet put) else in
-        record {
-          going = record {
-            keeps = discover G.row (spot place) (spot entered) nums t new put else c w (drop 1 all) I there goal;
-            fits = record {
-              outside = λ s l. else s (λ q. omega arith) ∙ F.outside s l;
-              numbers = omega (arith, F.numbers);
-              walks = omega (arith, F.walks);
-            };
-          };
-          falls = omega (arith, short t);
-          seen = λ s u. ⊎_elim (λ q. absurd (unseen_open (ap (spot entered) (sym q) ∙ u) put)) (λ ne. sym (else s ne) ∙ u) (cases_eq s t);
-        }
-
-    -- the places stay, and the top has looked at one move more
-    looked : (l : ℕ) → Inv G.row (spot place) nums (marked w l ∷ drop 1 all) c → Next G place (w ∷ drop 1 all) place c nums (marked w l ∷ drop 1 all)
+    -- the top has looked at one move more
+    looked : (l : ℕ) → Inv G.row (spot S.place) S.numbers.held (marked w l ∷ S.walk.held) S.count → Next G (walking S w) (walking S (marked w l))
     looked l i = record {
-      going = record { keeps = i; fits = record { outside = F.outside; numbers = F.numbers; walks = F.walks } };
+      going = record {
+        keeps = i;
+        fits = record { outside = on.fits.outside; numbers = on.fits.numbers; walks = on.fits.walks };
+        room = on.room;
+        wide = on.wide;
+      };
       falls = omega arith;
       seen = λ s u. u;
     }
 
-    after : (p : Place) → spot place t ≡ p → (place' : List Place) (nums' : List ℕ) (ws' : List Walk) → Follows p place place' nums nums' all ws' w t → Next G place (w ∷ drop 1 all) place' c nums' ws'
-    after Unseen e place' nums' ws' f = moved (λ a b k. Next G place (w ∷ drop 1 all) a c b k) f.0 f.1 f.2 (met e)
-    after (Open q) e place' nums' ws' f = moved (λ a b k. Next G place (w ∷ drop 1 all) a c b k) f.0 f.1 f.2
-        (looked (min w.low q) (pass_open G.row (spot place) nums c w (drop 1 all) I q there (ap (spot place) goal ∙ e)))
-    after (Done d) e place' nums' ws' f = moved (λ a b k. Next G place (w ∷ drop 1 all) a c b k) f.0 f.1 f.2
-        (looked w.low (pass_done G.row (spot place) nums c w (drop 1 all) I d (ap (spot place) goal ∙ e)))
+    met : spot S.place t ≡ Unseen → Next G (walking S w) (entered (walking S (marked w w.low)) t)
+    met new =
+        let q : ℕ = length S.numbers.held in
+        let P' : ℕ → Place = spot (set S.place t (Open q)) in
+        let put : P' t ≡ Open q = get_or-set_same S.place t (Open q) Unseen (omega (arith, on.wide)) in
+        let else : (s : ℕ) → (s ≡ t → ⊥) → P' s ≡ spot S.place s = λ s ne. get_or-set_other S.place t s (Open q) Unseen ne in
+        let one : unseen G.size (spot S.place) ≡ unseen G.size P' + 1 = unseen_put G.size (spot S.place) P' t inside new (ap unmet put) else in
+        record {
+          going = record {
+            keeps = discover G.row (spot S.place) P' S.numbers.held t new put else S.count w S.walk.held on.keeps there goal;
+            fits = record {
+              outside = λ s l. else s (λ e. omega arith) ∙ on.fits.outside s l;
+              numbers = omega (arith, on.fits.numbers);
+              walks = omega (arith, on.fits.walks);
+            };
+            room = on.room;
+            wide = omega (arith, on.wide, length-set S.place t (Open q));
+          };
+          falls = omega (arith, short t);
+          seen = λ s u. ⊎_elim (λ e. absurd (unseen_open (ap P' (sym e) ∙ u) put)) (λ ne. sym (else s ne) ∙ u) (cases_eq s t);
+        }
 
     -- a move is looked at
-    pub followed : (place' : List Place) (c' : ℕ) (nums' : List ℕ) (ws' : List Walk) → c' ≡ c → Follows (spot place t) place place' nums nums' all ws' w t → Next G place all place' c' nums' ws'
-    followed place' c' nums' ws' e f = step place' c' nums' ws' (subst (λ m. Next G place (w ∷ drop 1 all) place' m nums' ws') (sym e) (after (spot place t) refl place' nums' ws' f))
+    pub next_followed : (p : Place) → spot S.place t ≡ p → Next G (walking S w) (followed p S w t)
+    next_followed Unseen e = met e
+    next_followed (Open q) e = looked (min w.low q) (pass_open G.row (spot S.place) S.numbers.held S.count w S.walk.held on.keeps q there (ap (spot S.place) goal ∙ e))
+    next_followed (Done d) e = looked w.low (pass_done G.row (spot S.place) S.numbers.held S.count w S.walk.held on.keeps d (ap (spot S.place) goal ∙ e))
 
   module _ (done : length (G.row w.state) ≤ w.next) where
+    -- a mark that is at its own place is above that of the one below
+    unlowered : w.low ≡ w.at → lowest_top S.walk.held w.low ≡ S.walk.held
+    unlowered low = same S.walk.held on.keeps.climbs.0 on.keeps.marks.1
+      where
+        same : (ws : List Walk) → AllByRecursion (λ v. v.at < w.at) ws → AllByRecursion (Mark G.row (spot S.place)) ws → lowest_top ws w.low ≡ ws
+        same [] below marks = refl
+        same (v ∷ vs) below marks =
+            let e : min v.low w.low ≡ v.low = omega (arith, below.0, marks.0.1) in
+            ap (λ l. record { state = v.state; at = v.at; next = v.next; low = l } ∷ vs) e
+
     -- a component is closed
-    pub shut : w.low ≡ w.at → (place' : List Place) (c' : ℕ) (nums' : List ℕ) (ws' : List Walk) → Shuts place place' c c' nums' all ws' w.at → Next G place all place' c' nums' ws'
-    shut low place' c' nums' ws' h =
-        let same : unseen G.size (spot place') ≡ unseen G.size (spot place) = turned_count (spot place) (spot place') w.at c h.turned G.size in
-        let len : length nums' ≡ w.at = h.len in
-        step place' c' nums' ws'
-        (moved (λ a b k. Next G place (w ∷ drop 1 all) place' a b k) h.count (refl {a = nums'}) h.walk
-        (record {
+    pub next_shut : w.low ≡ w.at → (S' : Search) → Shuts (lowered S w.low) S' w.at → Next G (walking S w) S'
+    next_shut low S' h' =
+        let h : Shuts S S' w.at = subst (λ ws. Shuts (record S { walk = record S.walk { held = ws } }) S' w.at) (unlowered low) h' in
+        let same : unseen G.size (spot S'.place) ≡ unseen G.size (spot S.place) = turned_count (spot S.place) (spot S'.place) w.at S.count h.turned G.size in
+        let len : length S'.numbers.held ≡ w.at = h.len in
+        subst (Next G (walking S w)) (sym h.rest) (record {
           going = record {
-            keeps = close G.row (spot place) (spot place') nums nums' c w (drop 1 all) I done low h.turned h.stacked;
-            fits = record { outside = λ s l. h.turned.unseen s (F.outside s l); numbers = omega (arith, F.numbers, at-inside); walks = omega (arith, F.walks) };
+            keeps = close G.row (spot S.place) (spot S'.place) S.numbers.held S'.numbers.held S.count w S.walk.held on.keeps done low h.turned h.stacked;
+            fits = record {
+              outside = λ s l. h.turned.unseen s (on.fits.outside s l);
+              numbers = omega (arith, on.fits.numbers, at-inside);
+              walks = omega (arith, on.fits.walks);
+            };
+            room = on.room;
+            wide = omega (arith, on.wide, h.wide);
           };
           falls = omega arith;
-          seen = turned_unseen (spot place) (spot place') w.at c h.turned;
-        }))
+          seen = turned_unseen (spot S.place) (spot S'.place) w.at S.count h.turned;
+        })
 
     -- the low mark is handed on to the one below
-    pub passed : (w.low ≡ w.at → ⊥) → (place' : List Place) (c' : ℕ) (nums' : List ℕ) (ws' : List Walk) → place' ≡ place → c' ≡ c → nums' ≡ nums → ws' ≡ lowest_top (drop 1 all) w.low → Next G place all place' c' nums' ws'
-    passed low place' c' nums' ws' ep ec en ew =
-        step place' c' nums' ws' (subst (λ x. Next G place (w ∷ drop 1 all) x c' nums' ws') (sym ep)
-        (moved (λ a b k. Next G place (w ∷ drop 1 all) place a b k) ec en ew (handed (drop 1 all) I F)))
+    pub next_passed : (w.low ≡ w.at → ⊥) → Next G (walking S w) (lowered S w.low)
+    next_passed low = handed S.walk.held on.keeps on.fits
       where
-        handed : (ws : List Walk) → Inv G.row (spot place) nums (w ∷ ws) c → Fit G.size (spot place) nums (w ∷ ws) c → Next G place (w ∷ ws) place c nums (lowest_top ws w.low)
-        handed [] i f = absurd (not_alone G.row (spot place) nums c w i (omega (arith, i.marks.0.1)))
+        handed : (ws : List Walk) → Inv G.row (spot S.place) S.numbers.held (w ∷ ws) S.count → Fit G.size (spot S.place) S.numbers.held (w ∷ ws) S.count →
+            Next G (record S { walk = record S.walk { held = w ∷ ws } }) (record S { walk = record S.walk { held = lowest_top ws w.low } })
+        handed [] i f = absurd (not_alone G.row (spot S.place) S.numbers.held S.count w i (omega (arith, i.marks.0.1)))
         handed (v ∷ vs) i f = record {
           going = record {
-            keeps = leave G.row (spot place) nums c w v vs i done (omega (arith, i.marks.0.1));
+            keeps = leave G.row (spot S.place) S.numbers.held S.count w v vs i done (omega (arith, i.marks.0.1));
             fits = record { outside = f.outside; numbers = f.numbers; walks = omega (arith, f.walks) };
+            room = on.room;
+            wide = on.wide;
           };
           falls = omega arith;
           seen = λ s u. u;
         }
+
+-- the same of a model's inner moves
+module _ (M : Kripke) (formed : WellFormed M) (S : Search) (w : Walk) (on : Going (inner M) (walking S w)) where
+  abbrev G : Frame
+  G = inner M
+
+  -- there is a next move, to t
+  module _ (t : ℕ) (e : Some t ≡ move (G.row w.state) w.next) where
+    goes : (w.next < length (G.row w.state)) × (target G.row w.state w.next ≡ t) × (t < G.size)
+    goes = inner_some M formed w.state w.next t (state_inside G S w on) e
+
+    pub may_follow : (t < 128) × (w.next < 4096) × (spot S.place t ≡ Unseen → RoomForOne S × (length S.walk.held < S.walk.room))
+    may_follow = (
+      omega (arith, goes.2, on.room.few),
+      omega (arith, goes.0, inner_short M formed w.state),
+      room G S w on (inner_short M formed) t goes.2 goes.0 goes.1,
+    )
+
+    pub next_follow : (S' : Search) → S' ≡ followed (spot S.place t) S w t → Next G (walking S w) S'
+    next_follow S' is = subst (Next G (walking S w)) (sym is) (next_followed G S w on (inner_short M formed) t goes.2 goes.0 goes.1 (spot S.place t) refl)
+
+  -- there is none
+  pub may_leave : (S.count < 128) × (w.at ≤ length S.numbers.held) × Listed (spot S.place) S.numbers.held
+  may_leave = (omega (arith, count_inside G S w on, on.room.few), omega (arith, at-inside G S w on), on.keeps.stacked)
+
+  pub next_leave : None ≡ move (G.row w.state) w.next → (S' : Search) → (w.low ≡ w.at → Shuts (lowered S w.low) S' w.at) → ((w.low ≡ w.at → ⊥) → S' ≡ lowered S w.low) → Next G (walking S w) S'
+  next_leave e S' shut passed =
+      let done = inner-none M w.state w.next e in
+      ⊎_elim
+      (λ same. next_shut G S w on done same S' (shut same))
+      (λ ne. subst (Next G (walking S w)) (sym (passed ne)) (next_passed G S w on done ne))
+      (cases_eq w.low w.at)

@@ -1,5 +1,5 @@
 -- States that move to themselves, one after the other.
-use Rattle.std.proofs.Common.{◌≡◌, ℕ, ◌+◌, ◌⊎◌, ◌↔◌, List, sym, ap, ◌∙◌, subst, inl, inr, ⊎_elim, arith}
+use Rattle.std.proofs.Common.{◌≡◌, ℕ, ◌+◌, ◌<◌, ◌⊎◌, ◌↔◌, List, sym, ap, ◌∙◌, subst, inl, inr, ⊎_elim, arith}
 use Rattle.std.proofs.lemmas.Bool.{cases_eq}
 use Rattle.sets.specs.declared.Set.{Set}
 use Rattle.sets.specs.Sets.{In}
@@ -7,12 +7,24 @@ use Rattle.kripke.specs.Models.{Frame}
 use Rattle.kripke.specs.Paths.{Move}
 use Rattle.components.specs.Numbers.{number, Turns}
 
-pub turns_none : (F : Frame) (part : List ℕ) (many : Set) (i : ℕ) → In many i ↔ (In many i ⊎ Turns F 0 part i)
-turns_none F part many i = (inl, ⊎_elim (λ h. h) (λ h. absurd (omega (arith, h.1))))
+-- what a state of component i adds to a set
+abbrev pub Adds : Frame → (s i : ℕ) → (old new : Set) → Type 0
+Adds F s i old new = (j : ℕ) → In new j ↔ (In old j ⊎ ((j ≡ i) × Move F s s))
+
+-- nothing, where the component is in the set, or the state does not move to itself
+pub adds_none : (F : Frame) (s i : ℕ) (old : Set) → In old i ⊎ (Move F s s → ⊥) → Adds F s i old old
+adds_none F s i old why j = (inl, ⊎_elim (λ h. h) (λ h. ⊎_elim (λ o. subst (In old) (sym h.0) o) (λ no'. absurd (no' h.1)) why))
+
+-- the component, where it does
+pub adds_one : (F : Frame) (s i : ℕ) (old new : Set) → i < 128 → Move F s s → ((j : ℕ) → In new j ↔ (In old j ⊎ ((j ≡ i) × (i < 128)))) → Adds F s i old new
+adds_one F s i old new small move with' j = (
+  (λ h. ⊎_elim inl (λ p. inr (p.0, move)) ((with' j).0 h)),
+  (λ h. (with' j).1 (⊎_elim inl (λ p. inr (p.0, small)) h)),
+)
 
 module _ (F : Frame) (part : List ℕ) (s : ℕ) (many old new : Set)
     (before : (i : ℕ) → In old i ↔ (In many i ⊎ Turns F s part i))
-    (more : (j : ℕ) → In new j ↔ (In old j ⊎ ((j ≡ number part s) × Move F s s))) where
+    (more : Adds F s (number part s) old new) where
   longer : (i : ℕ) → Turns F s part i → Turns F (s + 1) part i
   longer i h = (h.0, omega (arith, h.1), h.2, h.3)
 

@@ -1,11 +1,15 @@
--- What a stack holds, and how much it can hold.
-use Rattle.std.specs.Prelude.{ℕ, List, reverse, length, take}
-use Rattle.components.specs.declared.stack.Stack.{Stack}
+-- What a stack holds.
+use Rattle.std.specs.Prelude.{ℕ, List, ◌∷◌, drop}
 
--- the entries, the newest first
-abbrev pub held : {X : Type 0} → Stack X → List X
-held s = reverse (take s.len s.cells.now)
+-- the entries, the newest first, and how many find room
+pub record Held (X : Type 0) : Type 0 where
+  pub held : List X
+  pub room : ℕ
 
--- how many entries it can hold
-abbrev pub room : {X : Type 0} → Stack X → ℕ
-room s = length s.cells.now
+-- one entry more
+abbrev pub pushed : {X : Type 0} → Held X → X → Held X
+pushed s x = record s { held = x ∷ s.held }
+
+-- another newest entry
+abbrev pub replaced : {X : Type 0} → Held X → X → Held X
+replaced s x = record s { held = x ∷ drop 1 s.held }

@@ -1,5 +1,5 @@
--- What the component walk keeps true of its places, its two stacks and its count.
-use Rattle.std.specs.Prelude.{◌≡◌, ℕ, zero, suc, ◌+◌, ◌-◌, ◌*◌, ◌<◌, ◌≤◌, min, ◌⊎◌, List, [], ◌∷◌, length, drop, slice_index_or, slice_set}
+-- What a walk keeps true of the places of its states, of its two stacks and of its count.
+use Rattle.std.specs.Prelude.{◌≡◌, ℕ, zero, suc, ◌+◌, ◌-◌, ◌*◌, ◌<◌, ◌≤◌, min, ◌⊎◌, List, [], ◌∷◌, length, slice_index_or}
 use Rattle.std.specs.List.{AllByRecursion}
 use Rattle.kripke.specs.Models.{Frame}
 use Rattle.components.specs.Reach.{Leads, target}
@@ -102,20 +102,6 @@ pub record Turned (P P' : ℕ → Place) (a c : ℕ) : Type 0 where
   pub done : (s d : ℕ) → P s ≡ Done d → P' s ≡ Done d
   pub unseen : (s : ℕ) → P s ≡ Unseen → P' s ≡ Unseen
 
--- what a move from the top of the walk to t alters, where t stands at a place
-abbrev pub Follows : Place → (place place' : List Place) (nums nums' : List ℕ) (ws ws' : List Walk) (w : Walk) (t : ℕ) → Type 0
-Follows Unseen place place' nums nums' ws ws' w t = (place' ≡ slice_set place t (Open (length nums))) × (nums' ≡ t ∷ nums) × (ws' ≡ fresh t (length nums) ∷ marked w w.low ∷ drop 1 ws)
-Follows (Open q) place place' nums nums' ws ws' w t = (place' ≡ place) × (nums' ≡ nums) × (ws' ≡ marked w (min w.low q) ∷ drop 1 ws)
-Follows (Done d) place place' nums nums' ws ws' w t = (place' ≡ place) × (nums' ≡ nums) × (ws' ≡ marked w w.low ∷ drop 1 ws)
-
--- what stands from place a up is a component, and the top of the walk is off
-pub record Shuts (place place' : List Place) (c c' : ℕ) (nums' : List ℕ) (ws ws' : List Walk) (a : ℕ) : Type 0 where
-  pub turned : Turned (spot place) (spot place') a c
-  pub count : c' ≡ c + 1
-  pub stacked : Listed (spot place') nums'
-  pub len : length nums' ≡ a
-  pub walk : ws' ≡ drop 1 ws
-
 -- how many of the first n states are not met
 abbrev pub unmet : Place → ℕ
 unmet Unseen = 1
@@ -140,23 +126,3 @@ pub record Fit (n : ℕ) (P : ℕ → Place) (nums : List ℕ) (ws : List Walk) 
   pub outside : (s : ℕ) → n ≤ s → P s ≡ Unseen
   pub numbers : unseen n P + length nums + c ≤ n
   pub walks : unseen n P + length ws ≤ n
-
--- the search goes well
-pub record Going (G : Frame) (place : List Place) (c : ℕ) (nums : List ℕ) (ws : List Walk) : Type 0 where
-  pub keeps : Inv G.row (spot place) nums ws c
-  pub fits : Fit G.size (spot place) nums ws c
-
--- a step leads from one place table and walk to what is given last: the search goes on well, has less left to do, and no state is forgotten
-pub record Next (G : Frame) (place : List Place) (ws : List Walk) (place' : List Place) (c' : ℕ) (nums' : List ℕ) (ws' : List Walk) : Type 0 where
-  pub going : Going G place' c' nums' ws'
-  pub falls : left_over G (spot place') ws' < left_over G (spot place) ws
-  pub seen : (s : ℕ) → spot place' s ≡ Unseen → spot place s ≡ Unseen
-
--- the search is over: each state has one of c numbers, each number is some state's, and two states have the same
--- exactly where moves lead both ways
-pub record Searched (G : Frame) (place : List Place) (c : ℕ) : Type 0 where
-  pub few : c ≤ G.size
-  pub each : (s : ℕ) → s < G.size → (d : ℕ) × (spot place s ≡ Done d) × (d < c)
-  pub used : (d : ℕ) → d < c → (s : ℕ) × (s < G.size) × (spot place s ≡ Done d)
-  pub same : (s t d : ℕ) → spot place s ≡ Done d → spot place t ≡ Done d → Leads G.row s t × Leads G.row t s
-  pub apart : (s t d e : ℕ) → spot place s ≡ Done d → spot place t ≡ Done e → Leads G.row s t → Leads G.row t s → d ≡ e

@@ -7,30 +7,21 @@ ghost use Rattle.components.specs.Numbers.{Turns};
 use models::Model;
 use sets::Set;
 
-// Adds to `many` each component with a state that moves to itself.
-pub fn with_self_moves<M: Model>(model: &M, size: u16, part: &[u8; 128], many: Set) -> Set
-    requires size { (size ≡ (M.Model.means model.now).frame.size) × (size ≤ 128) }
-    requires small { (s : ℕ) → s < size → slice_index part.now s < 128 }
-    ensures { (i : ℕ) → In result i ↔ (In many i ⊎ Turns (M.Model.means model.now).frame size part.now i) }
+// Adds to `many` each component with a state that moves to itself. The moves of a state are looked at only where its
+// component is not in the set yet: one with more members is.
+pub fn with_self_moves<M: Model>(model: &M, part: &[u8; 128], many: Set) -> Set
+    requires few { (M.Model.means model.now).frame.size ≤ 128 }
+    requires small { (s : ℕ) → s < (M.Model.means model.now).frame.size → slice_index part.now s < 128 }
+    ensures { let F = (M.Model.means model.now).frame in (i : ℕ) → In result i ↔ (In many i ⊎ Turns F F.size part.now i) }
 {
     let mut cyclic = many;
-    for s in 0..size {
-        cyclic = with_self_move(model, s, part[s as usize], cyclic);
+    for (s, &i) in part[..model.size() as usize].iter().enumerate() {
+        let i = i as usize;
+        if !cyclic.has(i) && moves_to_itself(model, s as u16) {
+            cyclic = cyclic.with(i);
+        }
     }
     cyclic
-}
-
-// Adds component `i`, if its state `s` moves to itself. The moves of `s` are looked at only where the component is not
-// in the set yet: one with more members is.
-fn with_self_move<M: Model>(model: &M, s: u16, i: u8, cyclic: Set) -> Set
-    requires { (s < (M.Model.means model.now).frame.size) × (i < 128) }
-    ensures { (j : ℕ) → In result j ↔ (In cyclic j ⊎ ((j ≡ i) × Move (M.Model.means model.now).frame s s)) }
-{
-    if cyclic.has(i as usize) || !moves_to_itself(model, s) {
-        cyclic
-    } else {
-        cyclic.with(i as usize)
-    }
 }
 
 // Whether a move of the state `s` goes to `s`.
@@ -38,10 +29,5 @@ fn moves_to_itself<M: Model>(model: &M, s: u16) -> bool
     requires { s < (M.Model.means model.now).frame.size }
     ensures { Decides result (Move (M.Model.means model.now).frame s s) }
 {
-    for k in 0..model.degree(s) {
-        if model.target(s, k) == Some(s) {
-            return true;
-        }
-    }
-    false
+    (0..model.degree(s)).any(|k| model.target(s, k) == Some(s))
 }

@@ -2,14 +2,11 @@
 //! One depth-first walk finds them, with two stacks in lent memory.
 #![tactic(auto)]
 
-ghost use Rattle.std.specs.Prelude.{◌≡◌, ◌≤◌, [], length};
 ghost use Rattle.components.specs.Found.{Answers};
-ghost use Rattle.components.specs.Inner.{inner};
-ghost use Rattle.components.specs.Walks.{Searched};
 
 use crate::cycles::with_self_moves;
-use crate::marks::{Marks, Place};
-use crate::stack::Stack;
+use crate::numbering::{Sizes, number};
+use crate::search::Search;
 use models::Model;
 use sets::Set;
 
@@ -19,7 +16,6 @@ mod moves;
 mod numbering;
 mod search;
 pub mod stack;
-mod walking;
 
 pub use crate::marks::Walk;
 
@@ -61,27 +57,9 @@ pub fn find_components<M: Model>(
     if walks.len() < size as usize || states.len() < size as usize {
         return Err(Refused::ShortScratch);
     }
-    let marks = search_all(model, walks, states, size);
-    let sizes = marks.number(size, part);
-    let cyclic = with_self_moves(model, size, part, sizes.many);
-    Ok(Found {
-        count: sizes.count,
-        cyclic,
-    })
-}
-
-// Walks over the whole model.
-fn search_all<M: Model>(model: &M, walks: &mut [Walk], states: &mut [u16], size: u16) -> Marks
-    requires size { (size ≡ (M.Model.means model.now).frame.size) × (size ≤ 128) }
-    requires rooms { (size ≤ length states.old) × (size ≤ length walks.old) }
-    ensures { Searched (inner (M.Model.means model.now)) result.place result.count }
-{
-    let mut marks = Marks {
-        place: [Place::Unseen; 128],
-        count: 0,
-    };
-    let mut walk = Stack::new(walks);
-    let mut numbers = Stack::new(states);
-    marks.walk_all(model, &mut walk, &mut numbers, size);
-    marks
+    let mut search = Search::new(walks, states);
+    search.walk_all(model);
+    let Sizes { count, many } = number(&search.place, size, part);
+    let cyclic = with_self_moves(model, part, many);
+    Ok(Found { count, cyclic })
 }

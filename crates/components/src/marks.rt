@@ -1,5 +1,4 @@
-//! What the search keeps.
-ghost use Rattle.std.specs.Prelude.{◌≡◌, length};
+//! What the search keeps of each state.
 
 /// A state that the search walks from. The memory that is lent for these holds no answer: fill it with `Walk::BLANK`.
 #[derive(Clone, Copy)]
@@ -30,12 +29,4 @@ pub enum Place {
     Unseen,
     Open(u8),
     Done(u8),
-}
-
-// Where each state stands, and how many components are closed.
-#[derive(Drop)]
-pub struct Marks {
-    pub(crate) place: [Place; 128],
-    pub(crate) count: u8,
-    ghost sized: { length place ≡ 128 },
 }

@@ -9,10 +9,7 @@ use models::Model;
 pub fn inner_move<M: Model>(model: &M, s: u16, k: u16) -> Option<u16>
     ensures { result ≡ move ((inner (M.Model.means model.now)).row s) k }
 {
-    match model.target(s, k) {
-        Some(t) => Some(kept_alike(model, s, t)),
-        None => None,
-    }
+    model.target(s, k).map(|t| kept_alike(model, s, t))
 }
 
 // `t` where it is alike to `s`, and `s` where it is not. No state is alike to `NOWHERE`.

@@ -4,7 +4,7 @@ ghost use Rattle.components.specs.Walks.{spot};
 ghost use Rattle.components.specs.Numbers.{Numbered};
 ghost use Rattle.components.specs.declared.marks.Place.TheVariants.{Done};
 
-use crate::marks::{Marks, Place};
+use crate::marks::Place;
 use sets::Set;
 
 // How many components there are, and which of them have more than one member.
@@ -14,43 +14,30 @@ pub struct Sizes {
     pub many: Set,
 }
 
-impl Marks {
-    // The number that the walk gave to the component of a state that is done.
-    fn component(&self, s: usize) -> u8
-        requires done { (d : ℕ) × (spot self.now.place s ≡ Done d) × (d < 128) }
-        requires inside { s < 128 }
-        ensures is { spot self.now.place s ≡ Done result }
-        ensures small { result < 128 }
-    {
-        match self.place[s] {
-            Place::Done(c) => c,
-            Place::Unseen | Place::Open(_) => unreachable(),
-        }
-    }
-
-    // Writes the component of each state to the front of `part`, numbered by first member.
-    pub fn number(&self, size: u16, part: &mut [u8; 128]) -> Sizes
-        requires size { size ≤ 128 }
-        requires done { (s : ℕ) → s < size → (d : ℕ) × (spot self.now.place s ≡ Done d) × (d < 128) }
-        ensures { Numbered self.now.place size part.old part.new result.count result.many }
-    {
-        let mut given = [None; 128];
-        let mut count = 0;
-        let mut many = Set::NONE;
-        for s in 0..size as usize {
-            let c = self.component(s) as usize;
-            match given[c] {
-                Some(i) => {
-                    part[s] = i;
-                    many = many.with(i as usize);
-                }
-                None => {
-                    part[s] = count;
-                    given[c] = Some(count);
-                    count += 1;
-                }
+// Writes the component of each state to the front of `part`, numbered by first member.
+pub fn number(places: &[Place; 128], size: u16, part: &mut [u8; 128]) -> Sizes
+    requires size { size ≤ 128 }
+    requires done { (s : ℕ) → s < size → (d : ℕ) × (spot places.now s ≡ Done d) × (d < 128) }
+    ensures { Numbered places.now size part.old part.new result.count result.many }
+{
+    let mut given = [None; 128];
+    let mut count = 0;
+    let mut many = Set::NONE;
+    for (s, place) in places[..size as usize].iter().enumerate() {
+        let Place::Done(c) = *place else {
+            unreachable!()
+        };
+        match given[c as usize] {
+            Some(i) => {
+                part[s] = i;
+                many = many.with(i as usize);
+            }
+            None => {
+                part[s] = count;
+                given[c as usize] = Some(count);
+                count += 1;
             }
         }
-        Sizes { count, many }
     }
+    Sizes { count, many }
 }

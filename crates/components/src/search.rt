@@ -1,79 +1,132 @@
-//! The search, over a model.
-ghost use Rattle.std.specs.Prelude.{◌≡◌, ℕ, ◌<◌, ◌≤◌, [], ◌∷◌, length, drop, ◌≢◌};
-ghost use Rattle.components.specs.Held.{held, room};
+//! The search: one depth-first walk with two stacks in lent memory.
+ghost use Rattle.std.specs.Prelude.{◌≡◌, ℕ, ◌<◌, ◌≤◌, [], length, ◌≢◌};
 ghost use Rattle.components.specs.Inner.{inner};
-ghost use Rattle.components.specs.Walks.{spot, Going, Next, Searched};
+ghost use Rattle.components.specs.Walks.{spot, Listed};
+ghost use Rattle.components.specs.Search.{blank, walking, walked, entered, followed, lowered, Shuts, RoomForOne, Resting, Searched};
 ghost use Rattle.components.specs.declared.marks.Place.TheVariants.{Unseen};
 
-use crate::marks::{Marks, Place, Walk};
+use crate::marks::{Place, Walk};
 use crate::moves::inner_move;
 use crate::stack::Stack;
 use models::Model;
 
-impl Marks {
+// Where each state stands, how many components are closed, and two stacks: the open states in the order that they were
+// met in, and the way that the walk came. The state that it is at stands beside them.
+#[derive(Drop)]
+pub struct Search<'a> {
+    pub place: [Place; 128],
+    pub count: u8,
+    numbers: Stack<'a, u16>,
+    walk: Stack<'a, Walk>,
+}
+
+impl<'a> Search<'a> {
+    // Nothing is met yet.
+    pub fn new(walks: &'a mut [Walk], states: &'a mut [u16]) -> Search<'a>
+        ensures { result ≡ blank (length states.old) (length walks.old) }
+    {
+        Search {
+            place: [Place::Unseen; 128],
+            count: 0,
+            numbers: Stack::new(states),
+            walk: Stack::new(walks),
+        }
+    }
+
     // Walks from every state that is not met yet.
-    pub fn walk_all<M: Model>(
-        &mut self,
-        model: &M,
-        walk: &mut Stack<'_, Walk>,
-        numbers: &mut Stack<'_, u16>,
-        size: u16,
-    )
-        requires size { (size ≡ (inner (M.Model.means model.now)).size) × (size ≤ 128) }
-        requires rooms { (size ≤ room numbers.old) × (size ≤ room walk.old) }
-        requires going { Going (inner (M.Model.means model.now)) self.old.place self.old.count (held numbers.old) (held walk.old) }
-        requires over { held walk.old ≡ [] }
+    pub fn walk_all<M: Model>(&mut self, model: &M)
+        requires { Resting (inner (M.Model.means model.now)) self.old }
         ensures { Searched (inner (M.Model.means model.now)) self.new.place self.new.count }
     {
-        for root in 0..size {
+        for root in 0..model.size() {
             if let Place::Unseen = self.place[root as usize] {
-                self.explore(model, walk, numbers, root);
+                self.explore(model, root);
             }
         }
     }
 
     // Walks from `root` until the walk is over.
-    fn explore<M: Model>(
-        &mut self,
-        model: &M,
-        walk: &mut Stack<'_, Walk>,
-        numbers: &mut Stack<'_, u16>,
-        root: u16,
-    )
-        requires size { (inner (M.Model.means model.now)).size ≤ 128 }
-        requires rooms { ((inner (M.Model.means model.now)).size ≤ room numbers.old) × ((inner (M.Model.means model.now)).size ≤ room walk.old) }
-        requires going { Going (inner (M.Model.means model.now)) self.old.place self.old.count (held numbers.old) (held walk.old) }
-        requires over { held walk.old ≡ [] }
+    fn explore<M: Model>(&mut self, model: &M, root: u16)
+        requires resting { Resting (inner (M.Model.means model.now)) self.old }
         requires root { (root < (inner (M.Model.means model.now)).size) × (spot self.old.place root ≡ Unseen) }
-        ensures going { Going (inner (M.Model.means model.now)) self.new.place self.new.count (held numbers.new) (held walk.new) }
-        ensures over { held walk.new ≡ [] }
+        ensures resting { Resting (inner (M.Model.means model.now)) self.new }
         ensures seen { (s : ℕ) → spot self.new.place s ≡ Unseen → (spot self.old.place s ≡ Unseen) × (s ≢ root) }
-        ensures rooms { (room numbers.new ≡ room numbers.old) × (room walk.new ≡ room walk.old) }
     {
-        self.enter(walk, numbers, root);
-        while let Some(top) = walk.top() {
-            self.step(model, walk, numbers, top);
+        let mut top = self.enter(root);
+        loop {
+            match inner_move(model, top.state, top.next) {
+                Some(t) => self.follow(&mut top, t),
+                None => match self.leave(top) {
+                    Some(below) => top = below,
+                    None => return,
+                },
+            }
         }
     }
 
-    // One step of the walk, from its top.
-    fn step<M: Model>(
-        &mut self,
-        model: &M,
-        walk: &mut Stack<'_, Walk>,
-        numbers: &mut Stack<'_, u16>,
-        top: Walk,
-    )
-        requires size { (inner (M.Model.means model.now)).size ≤ 128 }
-        requires rooms { ((inner (M.Model.means model.now)).size ≤ room numbers.old) × ((inner (M.Model.means model.now)).size ≤ room walk.old) }
-        requires going { Going (inner (M.Model.means model.now)) self.old.place self.old.count (held numbers.old) (held walk.old) }
-        requires top { held walk.old ≡ top ∷ drop 1 (held walk.old) }
-        ensures next { Next (inner (M.Model.means model.now)) self.old.place (held walk.old) self.new.place self.new.count (held numbers.new) (held walk.new) }
-        ensures rooms { (room numbers.new ≡ room numbers.old) × (room walk.new ≡ room walk.old) }
+    // Meets a state: the walk goes on from it.
+    fn enter(&mut self, s: u16) -> Walk
+        requires state { s < 128 }
+        requires room { RoomForOne self.old }
+        ensures { walking self.new result ≡ entered self.old s }
     {
-        match inner_move(model, top.state, top.next) {
-            Some(t) => self.follow(walk, numbers, top, t),
-            None => self.leave(walk, numbers, top),
+        let at = self.numbers.len() as u8;
+        self.numbers.push(s).unwrap();
+        self.place[s as usize] = Place::Open(at);
+        Walk {
+            state: s,
+            at,
+            next: 0,
+            low: at,
         }
+    }
+
+    // Looks at the next move of `top`, which goes to `t`: the walk goes on from a state that is met for the first time.
+    fn follow(&mut self, top: &mut Walk, t: u16)
+        requires state { t < 128 }
+        requires short { top.old.next < 4096 }
+        requires room { spot self.old.place t ≡ Unseen → RoomForOne self.old × (length self.old.walk.held < self.old.walk.room) }
+        ensures { walking self.new top.new ≡ followed (spot self.old.place t) self.old top.old t }
+    {
+        top.next += 1;
+        match self.place[t as usize] {
+            Place::Unseen => {
+                self.walk.push(*top).unwrap();
+                *top = self.enter(t);
+            }
+            Place::Open(at) => top.low = top.low.min(at),
+            Place::Done(_) => {}
+        }
+    }
+
+    // Leaves `top`, once all its moves are looked at, for the state that it was met from.
+    fn leave(&mut self, top: Walk) -> Option<Walk>
+        requires many { self.old.count < 128 }
+        requires within { top.at ≤ length self.old.numbers.held }
+        requires stacked { Listed (spot self.old.place) self.old.numbers.held }
+        ensures shut { top.low ≡ top.at → Shuts (lowered self.old top.low) (walked self.new result) top.at }
+        ensures passed { top.low ≢ top.at → walked self.new result ≡ lowered self.old top.low }
+        ensures over { result ≡ None → self.new.walk.held ≡ [] }
+    {
+        if top.low == top.at {
+            self.close(top.at);
+        }
+        self.walk.pop().map(|below| Walk {
+            low: below.low.min(top.low),
+            ..below
+        })
+    }
+
+    // Turns what stands on the number stack from place `at` up into a component.
+    fn close(&mut self, at: u8)
+        requires many { self.old.count < 128 }
+        requires within { at ≤ length self.old.numbers.held }
+        requires stacked { Listed (spot self.old.place) self.old.numbers.held }
+        ensures { Shuts self.old self.new at }
+    {
+        while let Some(s) = self.numbers.pop_above(at as usize) {
+            self.place[s as usize] = Place::Done(self.count);
+        }
+        self.count += 1;
     }
 }

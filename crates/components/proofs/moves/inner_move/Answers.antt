@@ -1,9 +1,0 @@
-use Rattle.std.proofs.Common.{rules}
-use Rattle.kripke.proofs.Rows.{move-map}
-use Rattle.components.proofs.moves.inner_move.Goals as goal
-
-pub returns-in-Some : goal.returns-in-Some
-returns-in-Some g c = search (rules, move-map)
-
-pub returns-in-None : goal.returns-in-None
-returns-in-None g c = search (rules, move-map)
