@@ -18,16 +18,16 @@ not_above row r j (suc k) h =
 pub rising_answer : (n : ℕ) (row : List ℕ) (b : Bool) → (0 < length row → get_or row (length row - 1) 0 < n) → IsAllAdjacentAnswer (λ x y b. b ≡ ltb x y) row b → MatchBool b (RisingRow n row) (RisingRow n row → ⊥)
 rising_answer n row true last sorted =
     let rises : Rising row = λ k h.
-        let step : get_or row k nowhere < get_or row (k + 1) nowhere = ltb-true _ _ (sym (sorted k nowhere (omega arith))) in
-        rw add-one at step
+    let step : get_or row k nowhere < get_or row (k + 1) nowhere = ltb-true _ _ (sym (sorted k nowhere (omega arith))) in
+    rw add-one at step
     in
     record {
       rises = rises;
       below = all_from_every (λ t. t < n) row (λ k d from upto.
-      let end = last (omega arith) in
-      let same : k + (length row - 1 - k) ≡ length row - 1 = omega arith in
-      let low = rw same at (not_above row rises k (length row - 1 - k) (omega arith)) in
-      omega (arith, get_or_default_zero row k d upto, get_or_default_zero row k nowhere upto, get_or_default_zero row (length row - 1) nowhere (omega arith)));
+          let end = last (omega arith) in
+          let same : k + (length row - 1 - k) ≡ length row - 1 = omega arith in
+          let low = rw same at (not_above row rises k (length row - 1 - k) (omega arith)) in
+          omega (arith, get_or_default_zero row k d upto, get_or_default_zero row k nowhere upto, get_or_default_zero row (length row - 1) nowhere (omega arith)));
     }
 rising_answer n row false last sorted = λ rising.
     let k = sorted.0 in

@@ -21,9 +21,9 @@ fn labels_width<M: Model>(model: &M) -> usize
 {
     let states = model.size();
     let mut wide = width(states as u64);
+    // Kept: of a `map` and `sum` here the check leaves open whose labels have these widths, and that the sum fits.
     for s in 0..states {
-        let next = width(model.facts(s).bits);
-        wide += next;
+        wide += width(model.facts(s).bits);
     }
     wide
 }
