@@ -9,10 +9,8 @@ use checker::steps::{Refused, Step};
 use console::advice::advice;
 use console::{Tables, print_fault, read_file, refuse, wants_help};
 use modelfile::faults::FaultNumbers;
-use modelfile::reading::{Loaded, load};
+use modelfile::reading::load;
 use models::Model;
-use models::facts::Facts;
-use models::listed::Listed;
 use std::env;
 
 const HELP: &str = "\
@@ -110,21 +108,9 @@ fn asked_steps(rt: &HostRuntime) -> anyhow::Result<Vec<Step>> {
 fn ask(rt: &HostRuntime, steps: &[Step]) -> anyhow::Result<()> {
     let file = read_file(rt)?;
     let mut tables = Tables::new(rt.alloc())?;
-    match load(
-        &file,
-        &mut tables.labels,
-        &mut tables.offsets,
-        &mut tables.targets,
-    ) {
-        Ok(Loaded { states, targets }) => {
-            let n = states as usize;
-            let model = Listed {
-                labels: &tables.labels[0..n],
-                offsets: &tables.offsets[0..n + 1],
-                targets: &tables.targets[0..targets],
-            };
-            answer(rt, &model, steps)
-        }
+    let mut lent = tables.lend();
+    match load(&file, &mut lent) {
+        Ok(loaded) => answer(rt, &lent.model(loaded), steps),
         Err(fault) => {
             print_fault(rt, fault.numbers())?;
             Ok(())

@@ -5,6 +5,7 @@ use exchange::taking::{TakeFault, take};
 use merger::analysis::Analysis;
 use merger::answers::{Opened, Refusal};
 use modelfile::faults::FaultNumbers;
+use modelfile::reading;
 use models::facts::Facts;
 use std::test::Fail;
 
@@ -35,15 +36,12 @@ fn taken(
 ) -> Result<Opened, TakeFault> {
     let mut walks = [Walk::BLANK; 5];
     let walks = &mut walks[0..scratch.min(5)];
-    take(
-        analysis,
-        file,
-        &mut tables.labels,
-        &mut tables.offsets,
-        &mut tables.targets,
-        walks,
-        &mut [0; 5],
-    )
+    let mut lent = reading::Tables {
+        labels: &mut tables.labels,
+        offsets: &mut tables.offsets,
+        targets: &mut tables.targets,
+    };
+    take(analysis, file, &mut lent, walks, &mut [0; 5])
 }
 
 #[test]

@@ -5,6 +5,7 @@ use crate::advice::advice;
 use anyhow::anyhow;
 use modelfile::LONGEST;
 use modelfile::faults::FaultNumbers;
+use modelfile::reading;
 use models::facts::Facts;
 use models::listed::Listed;
 use std::alloc::{AllocError, Global};
@@ -34,6 +35,15 @@ impl Tables {
             offsets,
             targets,
         })
+    }
+
+    /// The tables, lent to be loaded into.
+    pub fn lend(&mut self) -> reading::Tables<'_> {
+        reading::Tables {
+            labels: &mut self.labels,
+            offsets: &mut self.offsets,
+            targets: &mut self.targets,
+        }
     }
 
     /// The model that was loaded, if it has so many states.

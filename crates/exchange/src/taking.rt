@@ -1,5 +1,6 @@
 //! A model file taken: loaded into lent tables and opened, with the faults of all layers.
 ghost use Rattle.std.specs.Prelude.{◌≡◌};
+ghost use Rattle.modelfile.specs.Loads.{held};
 ghost use Rattle.exchange.specs.declared.taking.TakeFault.TheVariants.{InFile as Carried, InModel as Refuses};
 ghost use Rattle.exchange.specs.Takes.{take_told, TakeAnswer};
 
@@ -7,9 +8,7 @@ use components::Walk;
 use merger::analysis::Analysis;
 use merger::answers::{OpenRefusal, Opened};
 use modelfile::faults::{FaultNumbers, FileFault};
-use modelfile::reading::{Loaded, load};
-use models::facts::Facts;
-use models::listed::Listed;
+use modelfile::reading::{Tables, load};
 
 /// Why a model file is not taken. A fault of the file is carried whole, and with it a fault of one of its numbers.
 #[derive(Clone, Copy, Debug, PartialEq, Eq)]
@@ -61,24 +60,15 @@ impl TakeFault {
 pub fn take(
     analysis: &mut Analysis,
     file: &[u8],
-    labels: &mut [Facts],
-    offsets: &mut [u32],
-    targets: &mut [u16],
+    tables: &mut Tables<'_>,
     walks: &mut [Walk],
     states: &mut [u16],
 ) -> Result<Opened, TakeFault>
-    ensures { TakeAnswer file.now (record { labels = labels.old; offsets = offsets.old; targets = targets.old }) (record { labels = labels.new; offsets = offsets.new; targets = targets.new }) analysis.old analysis.new walks.old walks.new states.old states.new result }
+    ensures answer { TakeAnswer file.now (held tables.old) (held tables.new) analysis.old analysis.new walks.old walks.new states.old states.new result }
+    ensures labels { tables.new.labels.ghost_name ≡ tables.old.labels.ghost_name }
+    ensures offsets { tables.new.offsets.ghost_name ≡ tables.old.offsets.ghost_name }
+    ensures targets { tables.new.targets.ghost_name ≡ tables.old.targets.ghost_name }
 {
-    let Loaded {
-        states: count,
-        targets: moves,
-    } = load(file, labels, offsets, targets)?;
-    let n = count as usize;
-    let model = Listed {
-        labels: &labels[0..n],
-        offsets: &offsets[0..n + 1],
-        targets: &targets[0..moves],
-    };
-    let opened = analysis.open(&model, walks, states)?;
-    Ok(opened)
+    let loaded = load(file, tables)?;
+    Ok(analysis.open(&tables.model(loaded), walks, states)?)
 }

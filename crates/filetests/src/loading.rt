@@ -2,7 +2,7 @@
 use codec::numbers::{NumberFault, write_number};
 use modelfile::LONGEST;
 use modelfile::faults::{FileFault, TextFault};
-use modelfile::reading::load;
+use modelfile::reading::{Tables, load};
 use models::facts::Facts;
 use std::test::Fail;
 
@@ -10,13 +10,13 @@ const POLLS: [u8; 17] = [5, 0, 0, 1, 0, 0, 1, 1, 1, 2, 1, 2, 1, 2, 2, 2, 4];
 
 // N and the number of targets, from tables of 6 labels, 6 offsets and 3 targets.
 fn loaded(file: &[u8]) -> Result<(u16, usize), FileFault> {
-    let mut labels = [Facts::NONE; 6];
-    let mut offsets = [0; 6];
-    let mut targets = [0; 3];
-    match load(file, &mut labels, &mut offsets, &mut targets) {
-        Ok(found) => Ok((found.states, found.targets)),
-        Err(fault) => Err(fault),
-    }
+    let mut tables = Tables {
+        labels: &mut [Facts::NONE; 6],
+        offsets: &mut [0; 6],
+        targets: &mut [0; 3],
+    };
+    let found = load(file, &mut tables)?;
+    Ok((found.states, found.targets))
 }
 
 #[test]
@@ -62,14 +62,24 @@ fn polls_fill_the_fronts(rt: HostRuntime) -> Result<(), Fail> {
     let mut labels = [Facts { bits: 9 }; 6];
     let mut offsets = [9; 7];
     let mut targets = [9; 7];
-    let found = load(&POLLS, &mut labels, &mut offsets, &mut targets)?;
+    let mut tables = Tables {
+        labels: &mut labels,
+        offsets: &mut offsets,
+        targets: &mut targets,
+    };
+    let found = load(&POLLS, &mut tables)?;
     assert_eq!(rt; (found.states, found.targets), (5, 6));
     assert_eq!(rt; labels[2], Facts { bits: 1 });
     assert_eq!(rt; labels[5], Facts { bits: 9 });
     assert_eq!(rt; offsets, [0, 1, 2, 3, 4, 6, 9]);
     assert_eq!(rt; targets, [1, 2, 2, 2, 2, 4, 9]);
     // a refusal writes nothing
-    let again = load(&POLLS, &mut labels, &mut offsets[0..5], &mut targets);
+    let mut tables = Tables {
+        labels: &mut labels,
+        offsets: &mut offsets[0..5],
+        targets: &mut targets,
+    };
+    let again = load(&POLLS, &mut tables);
     assert_eq!(rt; again.err(), Some(FileFault::TableShort(0)));
     assert_eq!(rt; offsets, [0, 1, 2, 3, 4, 6, 9]);
     Ok(())
@@ -106,10 +116,15 @@ fn longest_file(rt: HostRuntime) -> Result<(), Fail> {
         at = write_number(bits, &mut file, at).ok_or("room")?;
     }
     assert_eq!(rt; at, LONGEST - 4096);
-    let found = load(&file, &mut labels, &mut offsets, &mut [])?;
+    let mut tables = Tables {
+        labels: &mut labels,
+        offsets: &mut offsets,
+        targets: &mut [],
+    };
+    let found = load(&file, &mut tables)?;
     assert_eq!(rt; (found.states, found.targets), (4096, 0));
     file.push(0)?;
-    let again = load(&file, &mut labels, &mut offsets, &mut []);
+    let again = load(&file, &mut tables);
     assert_eq!(rt; again.err(), Some(FileFault::TooLong));
     Ok(())
 }

@@ -1,6 +1,6 @@
 //! Models of each kind saved: the file that loads again, and each refusal in its order, which leaves the buffer.
 use modelfile::LONGEST;
-use modelfile::reading::load;
+use modelfile::reading::{Tables, load};
 use models::Model;
 use models::beside::SideBySide;
 use models::facts::Facts;
@@ -67,7 +67,12 @@ fn saved_and_loaded(rt: HostRuntime) -> Result<(), Fail> {
     let mut labels = [Facts::NONE; 3];
     let mut offsets = [9; 4];
     let mut targets = [9; 4];
-    let found = load(&file[0..21], &mut labels, &mut offsets, &mut targets)?;
+    let mut tables = Tables {
+        labels: &mut labels,
+        offsets: &mut offsets,
+        targets: &mut targets,
+    };
+    let found = load(&file[0..21], &mut tables)?;
     assert_eq!(rt; (found.states, found.targets), (3, 4));
     assert_eq!(rt; labels, LABELS);
     assert_eq!(rt; (offsets, targets), (OFFSETS, TARGETS));

@@ -2,9 +2,7 @@
 #![tactic(auto)]
 
 use console::{Tables, no_arguments, print_fault, read_file, wants_help};
-use modelfile::reading::{Loaded, load};
-use models::facts::Facts;
-use models::listed::Listed;
+use modelfile::reading::load;
 use models::{Label, Model};
 use std::alloc::Global;
 use std::fmt::Write;
@@ -46,21 +44,9 @@ fn print_model<M: Model>(rt: &HostRuntime, model: &M, moves: usize) -> anyhow::R
 fn inspect(rt: &HostRuntime) -> anyhow::Result<()> {
     let file = read_file(rt)?;
     let mut tables = Tables::new(rt.alloc())?;
-    match load(
-        &file,
-        &mut tables.labels,
-        &mut tables.offsets,
-        &mut tables.targets,
-    ) {
-        Ok(Loaded { states, targets }) => {
-            let n = states as usize;
-            let model = Listed {
-                labels: &tables.labels[0..n],
-                offsets: &tables.offsets[0..n + 1],
-                targets: &tables.targets[0..targets],
-            };
-            print_model(rt, &model, targets)
-        }
+    let mut lent = tables.lend();
+    match load(&file, &mut lent) {
+        Ok(loaded) => print_model(rt, &lent.model(loaded), loaded.targets),
         Err(fault) => {
             print_fault(rt, fault.numbers())?;
             Ok(())

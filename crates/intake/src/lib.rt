@@ -5,7 +5,6 @@ use components::Walk;
 use console::{Tables, print_fault, read_file};
 use exchange::taking::take;
 use merger::analysis::Analysis;
-use models::facts::Facts;
 use std::alloc::Global;
 use std::io;
 
@@ -25,9 +24,7 @@ pub fn take_into(rt: &HostRuntime, tables: &mut Tables) -> io::Result<Option<Ana
     let taken = take(
         &mut analysis,
         &file,
-        &mut tables.labels,
-        &mut tables.offsets,
-        &mut tables.targets,
+        &mut tables.lend(),
         &mut [Walk::BLANK; MOST_STATES],
         &mut [0; MOST_STATES],
     );

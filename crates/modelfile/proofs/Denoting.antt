@@ -1,5 +1,5 @@
 -- What follows from what a file denotes: where its numbers stand, and how many there are.
-use Rattle.std.proofs.Common.{◌≡◌, ℕ, ◌^◌, ◌<◌, ◌≤◌, List, [], ◌∷◌, length, sym, ap, ◌∙◌, subst, zero-add, arith}
+use Rattle.std.proofs.Common.{◌≡◌, ℕ, ◌+◌, ◌^◌, ◌<◌, ◌≤◌, List, [], ◌∷◌, length, sym, ap, ◌∙◌, subst, zero-add, arith}
 use Rattle.std.specs.List.{flat_map, AllByRecursion}
 use Rattle.std.proofs.ByRecursion.{All-append, All-map, All-weaker}
 use Rattle.std.proofs.lemmas.List.{length-append, take_all}
@@ -68,17 +68,15 @@ module _ (t : Room) (file : List ℕ) (labels : List Facts) (rows : List (List �
       let bytes = ap length denotes.text in
       omega (arith, targets_count rows, length-codes (numbers labels rows), length-append (length labels ∷ bits_of labels) (flat_map counted rows))
 
-  pub rows_fit : (at states : ℕ) → at ≡ length (codes (length labels ∷ bits_of labels)) → states ≡ length labels → RowsFit file at states t.offsets t.targets
+  pub rows_fit : (at states : ℕ) → at ≡ length (codes (length labels ∷ bits_of labels)) → states ≡ length labels + 1 → RowsFit file at states t.targets
   rows_fit at states place many =
       let each = denotes.valid.each in
-      let held = denotes.held.0.1 in
       record {
         rows = rows;
         next = length file;
         many = omega arith;
         stand = rows_stand at place;
-        offsets_held = omega arith;
-        targets_held = denotes.held.1;
+        held = denotes.held.1;
         few = omega (arith, targets_few);
         short = short_rows (length labels) denotes.valid.sized.1 rows denotes.valid.rising;
       }

@@ -8,11 +8,10 @@ use Rattle.codec.specs.Numbers.{code, codes, counted}
 use Rattle.codec.specs.Reading.{Stands}
 use Rattle.modelfile.specs.Files.{bits_of, numbers, longest, Sized, RisingRow, Wide, targets_of}
 use Rattle.modelfile.specs.FirstFault.{Spot, at_size, at_label, at_degree, at_target, before, Right, RightLabels, HoldsStates, Reached, Fails, FirstFault, Denotes}
-use Rattle.modelfile.specs.Walks.{LabelsRead, RowsRead, TargetsRead, Lowest}
+use Rattle.modelfile.specs.Walks.{SameFile, LabelsRead, RowsRead, TargetsRead, Lowest, Begun}
 use Rattle.modelfile.specs.declared.faults.FileFault.{FileFault}
 use Rattle.modelfile.specs.declared.scan.Room.{Room}
-use Rattle.modelfile.specs.declared.scan.Walk.{Walk}
-use Rattle.modelfile.specs.declared.scan.OpenRow.{OpenRow}
+use Rattle.modelfile.specs.declared.scan.Reader.{Reader}
 use Rattle.modelfile.proofs.Rise.{lowest_more, lowest-none, rising_none}
 
 pub codes_push : (ns : List ℕ) (n : ℕ) → codes ns ++ code n ≡ codes (ns ++ (n ∷ []))
@@ -48,21 +47,19 @@ module _ (t : Room) (file : List ℕ) where
   pub started : Reached t file at_size 0
   started = record { inside = omega arith; right = tt; text = refl }
 
-  pub labels_none : (n next : ℕ) → Stands file 0 n next → Sized n → HoldsStates t n → LabelsRead t file n 0 next
-  labels_none n next there sized held = record {
-    labels = [];
-    many = refl;
-    reached = onward at_size (at_label n []) 0 n next started there (record { sized = sized; held = held; few = omega arith; wide = tt }) refl;
-  }
+  -- N is read
+  pub labels_none : (n next : ℕ) → Stands file 0 n next → Sized n → HoldsStates t n → Reached t file (at_label n []) next
+  labels_none n next there sized held =
+      onward at_size (at_label n []) 0 n next started there (record { sized = sized; held = held; few = omega arith; wide = tt }) refl
 
-  -- N alone is read
-  pub size_place : (n at : ℕ) → LabelsRead t file n 0 at → at ≡ length (codes (n ∷ []))
-  size_place n at read =
-      place_is (at_label n read.labels) at read.reached
-      ∙ ap (λ labels. length (codes (n ∷ bits_of labels))) (nil_from_length read.labels read.many)
+-- what a reader has read, one number on
+module _ (r q : Reader) (same : SameFile r q) where
+  -- the spot that it comes to
+  comes_to : (s : Spot) → Reached r.room r.file.now s q.at → Reached q.room q.file.now s q.at
+  comes_to s reached = rw (same.file, same.room) reached
 
-  pub labels_more : (n count at facts next : ℕ) → LabelsRead t file n count at → count < n → Stands file at facts next → LabelsRead t file n (count + 1) next
-  labels_more n count at facts next read few there =
+  pub labels_more : (count facts : ℕ) → LabelsRead r count → count < r.states → Stands r.file.now r.at facts q.at → q.targets ≡ r.targets → LabelsRead q (count + 1)
+  labels_more count facts read few there targets =
       let x : Facts = record { bits = facts } in
       let right = read.reached.right in
       let many = read.many in
@@ -70,35 +67,20 @@ module _ (t : Room) (file : List ℕ) where
       record {
         labels = read.labels ++ (x ∷ []);
         many = omega arith;
-        reached = onward (at_label n read.labels) (at_label n (read.labels ++ (x ∷ []))) at facts next read.reached there
+        none = targets ∙ read.none;
+        reached = rw same.states (comes_to (at_label r.states (read.labels ++ (x ∷ [])))
+            (onward r.room r.file.now (at_label r.states read.labels) (at_label r.states (read.labels ++ (x ∷ []))) r.at facts q.at read.reached there
             (record { sized = right.sized; held = right.held; few = omega arith; wide = All-push Wide read.labels x right.wide there.small })
-            (ap (λ ns. n ∷ ns) (sym (map_push (λ (y : Facts). y.bits) read.labels x)));
-      }
-
-  -- all labels are read, and rows come next
-  pub rows_none : (n at : ℕ) (w : Walk) → LabelsRead t file n n at → w.states ≡ n → w.rows ≡ 0 → w.targets ≡ 0 → w.at ≡ at → RowsRead t file w
-  rows_none n at w read states rows targets place =
-      let many = read.many in
-      let right = subst (λ m. RightLabels t m read.labels) (sym many) read.reached.right in
-      record {
-        labels = read.labels;
-        rows = [];
-        sized = omega arith;
-        many = sym rows;
-        counted = sym targets;
-        reached = subst (Reached t file (at_degree read.labels [])) (sym place)
-            (turned (at_label n read.labels) (at_degree read.labels []) at read.reached
-            (record { labelled = right; few = omega arith; rising = tt; held = omega arith })
-            (ap (λ m. m ∷ bits_of read.labels) (sym many) ∙ sym (append-nil (length read.labels ∷ bits_of read.labels))));
+            (ap (λ ns. r.states ∷ ns) (sym (map_push (λ (y : Facts). y.bits) read.labels x)))));
       }
 
   -- the degree of the next row is read
-  pub targets_none : (w : Walk) (degree next : ℕ) (r : OpenRow) → RowsRead t file w → w.rows < w.states → Stands file w.at degree next → degree ≤ w.states →
-      r.states ≡ w.states → r.rows ≡ w.rows → r.before ≡ w.targets → r.degree ≡ degree → r.given ≡ 0 → r.low ≡ 0 → r.at ≡ next → TargetsRead t file r
-  targets_none w degree next r read more there ranged states rows before' deg given low place =
+  pub targets_none : (count degree : ℕ) → RowsRead r count → count < r.states → Stands r.file.now r.at degree q.at → degree ≤ r.states → q.targets ≡ r.targets → TargetsRead q count degree 0 0
+  targets_none count degree read more there ranged targets =
       let sized = read.sized in
       let many = read.many in
       let counted' = read.counted in
+      let states = same.states in
       let right = read.reached.right in
       let held = right.held in
       record {
@@ -106,93 +88,116 @@ module _ (t : Room) (file : List ℕ) where
         rows = read.rows;
         targets = [];
         sized = omega arith;
-        many = omega arith;
+        many = many;
         counted = omega arith;
-        given = sym given;
-        lowest = subst (Lowest []) (sym low) lowest-none;
-        reached = subst (Reached t file (at_target read.labels read.rows r.degree [])) (sym place)
-            (onward (at_degree read.labels read.rows) (at_target read.labels read.rows r.degree []) w.at degree next read.reached there
+        given = refl;
+        lowest = lowest-none;
+        reached = comes_to (at_target read.labels read.rows degree [])
+            (onward r.room r.file.now (at_degree read.labels read.rows) (at_target read.labels read.rows degree []) r.at degree q.at read.reached there
             (record { complete = right; next = omega arith; ranged = omega arith; few = omega arith; rising = record { rises = rising_none; below = tt }; held = omega arith })
-            (ap (λ d. numbers read.labels read.rows ++ (d ∷ [])) (sym deg)));
+            refl);
       }
 
   -- one target more is read
-  pub targets_more : (r q : OpenRow) (target next : ℕ) → TargetsRead t file r → r.given < r.degree → Stands file r.at target next → target < r.states → r.low ≤ target → r.before + r.given < t.targets →
-      q.states ≡ r.states → q.rows ≡ r.rows → q.before ≡ r.before → q.degree ≡ r.degree → q.given ≡ r.given + 1 → q.low ≡ target + 1 → q.at ≡ next → TargetsRead t file q
-  targets_more r q target next read more there below low room states rows before' degree given low' place =
+  pub targets_more : (count degree have low target : ℕ) → TargetsRead r count degree have low → have < degree → Stands r.file.now r.at target q.at → target < r.states → low ≤ target → r.targets < r.room.targets → q.targets ≡ r.targets + 1 →
+      TargetsRead q count degree (have + 1) (target + 1)
+  targets_more count degree have low target read more there below above room targets =
       let sized = read.sized in
-      let many = read.many in
       let counted' = read.counted in
       let given' = read.given in
+      let states = same.states in
       let right = read.reached.right in
       let ranged = right.ranged in
       let long = length_push read.targets target in
-      let rises : Rising (read.targets ++ (target ∷ [])) = (read.lowest target).0 low in
+      let rises : Rising (read.targets ++ (target ∷ [])) = (read.lowest target).0 above in
       let is_state : target < length read.labels = omega arith in
       record {
         labels = read.labels;
         rows = read.rows;
         targets = read.targets ++ (target ∷ []);
         sized = omega arith;
-        many = omega arith;
+        many = read.many;
         counted = omega arith;
         given = omega arith;
-        lowest = subst (Lowest (read.targets ++ (target ∷ []))) (sym low') (lowest_more read.targets target rises);
-        reached = subst (Reached t file (at_target read.labels read.rows q.degree (read.targets ++ (target ∷ [])))) (sym place)
-            (onward (at_target read.labels read.rows r.degree read.targets) (at_target read.labels read.rows q.degree (read.targets ++ (target ∷ []))) r.at target next read.reached there
+        lowest = lowest_more read.targets target rises;
+        reached = comes_to (at_target read.labels read.rows degree (read.targets ++ (target ∷ [])))
+            (onward r.room r.file.now (at_target read.labels read.rows degree read.targets) (at_target read.labels read.rows degree (read.targets ++ (target ∷ []))) r.at target q.at read.reached there
             (record {
               complete = right.complete;
               next = right.next;
-              ranged = omega arith;
+              ranged = ranged;
               few = omega arith;
               rising = record { rises = rises; below = All-push (λ u. u < length read.labels) read.targets target right.rising.below is_state };
               held = omega arith;
             })
-            (append_assoc (numbers read.labels read.rows) (r.degree ∷ read.targets) (target ∷ [])
-            ∙ ap (λ d. numbers read.labels read.rows ++ (d ∷ (read.targets ++ (target ∷ [])))) (sym degree)));
+            (append_assoc (numbers read.labels read.rows) (degree ∷ read.targets) (target ∷ [])));
+      }
+
+-- what a reader has read, seen otherwise
+module _ (r : Reader) where
+  -- N alone is read
+  pub size_place : LabelsRead r 0 → r.at ≡ length (codes (r.states ∷ []))
+  size_place read =
+      place_is r.room r.file.now (at_label r.states read.labels) r.at read.reached
+      ∙ ap (λ labels. length (codes (r.states ∷ bits_of labels))) (nil_from_length read.labels read.many)
+
+  -- all labels are read, and rows come next
+  pub rows_none : LabelsRead r r.states → RowsRead r 0
+  rows_none read =
+      let many = read.many in
+      let none = read.none in
+      let right = subst (λ m. RightLabels r.room m read.labels) (sym many) read.reached.right in
+      record {
+        labels = read.labels;
+        rows = [];
+        sized = many;
+        many = refl;
+        counted = sym none;
+        reached = turned r.room r.file.now (at_label r.states read.labels) (at_degree read.labels []) r.at read.reached
+            (record { labelled = right; few = omega arith; rising = tt; held = omega arith })
+            (ap (λ m. m ∷ bits_of read.labels) (sym many) ∙ sym (append-nil (length read.labels ∷ bits_of read.labels)));
       }
 
   -- a whole row is read
-  pub rows_more : (r : OpenRow) (w : Walk) → TargetsRead t file r → r.given ≡ r.degree →
-      w.states ≡ r.states → w.rows ≡ r.rows + 1 → w.targets ≡ r.before + r.degree → w.at ≡ r.at → RowsRead t file w
-  rows_more r w read all states rows targets place =
+  pub rows_more : (count degree have low : ℕ) → TargetsRead r count degree have low → degree ≤ have → RowsRead r (count + 1)
+  rows_more count degree have low read all =
       let sized = read.sized in
       let many = read.many in
       let counted' = read.counted in
-      let given = read.given in
+      let given' = read.given in
       let right = read.reached.right in
       let next = right.next in
+      let few = right.few in
       let held = right.held in
       let long = length_push read.rows read.targets in
       let flat : length (targets_of (read.rows ++ (read.targets ∷ []))) ≡ length (targets_of read.rows) + length read.targets =
       ap length (sym (targets_push read.rows read.targets)) ∙ length-append (targets_of read.rows) read.targets in
-      let degree : r.degree ≡ length read.targets = omega arith in
+      let whole : degree ≡ length read.targets = omega arith in
       record {
         labels = read.labels;
         rows = read.rows ++ (read.targets ∷ []);
-        sized = omega arith;
+        sized = sized;
         many = omega arith;
         counted = omega arith;
-        reached = subst (Reached t file (at_degree read.labels (read.rows ++ (read.targets ∷ [])))) (sym place)
-            (turned (at_target read.labels read.rows r.degree read.targets) (at_degree read.labels (read.rows ++ (read.targets ∷ []))) r.at read.reached
+        reached = turned r.room r.file.now (at_target read.labels read.rows degree read.targets) (at_degree read.labels (read.rows ++ (read.targets ∷ []))) r.at read.reached
             (record {
               labelled = right.complete.labelled;
               few = omega arith;
               rising = All-push (RisingRow (length read.labels)) read.rows read.targets right.complete.rising right.rising;
               held = omega arith;
             })
-            (ap (λ d. numbers read.labels read.rows ++ (d ∷ read.targets)) degree ∙ numbers_push read.labels read.rows read.targets));
+            (ap (λ d. numbers read.labels read.rows ++ (d ∷ read.targets)) whole ∙ numbers_push read.labels read.rows read.targets);
       }
 
   -- all rows are read, and nothing is left over
-  pub all_read : (w : Walk) (read : RowsRead t file w) → length file ≤ longest → w.rows ≡ w.states → length file ≤ w.at → Denotes t file read.labels read.rows
-  all_read w read short all end =
+  pub all_read : (read : RowsRead r r.states) → length r.file.now ≤ r.at → Denotes r.room r.file.now read.labels read.rows
+  all_read read end =
       let sized = read.sized in
       let many = read.many in
       let right = read.reached.right in
       record {
-        short = short;
+        short = r.short;
         valid = record { sized = right.labelled.sized; wide = right.labelled.wide; each = omega arith; rising = right.rising };
         held = (right.labelled.held, right.held);
-        text = sym (take_all w.at file end) ∙ read.reached.text;
+        text = sym (take_all r.at r.file.now end) ∙ read.reached.text;
       }

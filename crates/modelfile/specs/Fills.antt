@@ -11,21 +11,20 @@ pub record Sequence (file : List ℕ) (from : ℕ) (ns : List ℕ) (next : ℕ) 
   pub small : AllByRecursion (λ n. n < 2 ^ 64) ns
   pub text : take next file ≡ take from file ++ codes ns
 
--- a row stands at the place, and a table of so many targets has room for it from an index on
-pub record RowFits (file : List ℕ) (from room begin : ℕ) : Type 0 where
+-- a row stands at the place, which a table of so many targets holds
+pub record RowFits (file : List ℕ) (from room : ℕ) : Type 0 where
   pub row : List ℕ
   pub next : ℕ
-  pub stands : Sequence file from (counted row) next
-  pub held : begin + length row ≤ room
+  pub many : length row ≡ room
+  pub stands : Sequence file from row next
   pub short : AllByRecursion (λ t. t < 4096) row
 
--- rows stand at the place, one for each state, and tables of so many offsets and targets have room for them
-pub record RowsFit (file : List ℕ) (from states offsets targets : ℕ) : Type 0 where
+-- rows stand at the place, which tables of so many offsets and targets hold
+pub record RowsFit (file : List ℕ) (from offsets targets : ℕ) : Type 0 where
   pub rows : List (List ℕ)
   pub next : ℕ
-  pub many : length rows ≡ states
+  pub many : length rows + 1 ≡ offsets
   pub stand : Sequence file from (flat_map counted rows) next
-  pub offsets_held : states + 1 ≤ offsets
-  pub targets_held : length (targets_of rows) ≤ targets
+  pub held : length (targets_of rows) ≤ targets
   pub few : length (targets_of rows) < 2 ^ 32
   pub short : AllByRecursion (AllByRecursion (λ t. t < 4096)) rows

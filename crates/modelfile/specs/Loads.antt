@@ -9,6 +9,7 @@ use Rattle.modelfile.specs.Files.{targets_of, offsets_of, model_of}
 use Rattle.modelfile.specs.FirstFault.{Denotes, FirstFault, OneOutcome}
 use Rattle.modelfile.specs.declared.faults.FileFault.{FileFault}
 use Rattle.modelfile.specs.declared.reading.Loaded.{Loaded}
+use Rattle.modelfile.specs.declared.reading.Tables.{Tables as Lent}
 use Rattle.modelfile.specs.declared.scan.Room.{Room}
 
 -- what the three lent tables hold
@@ -16,6 +17,9 @@ pub record Tables : Type 0 where
   pub labels : List Facts
   pub offsets : List ℕ
   pub targets : List ℕ
+
+abbrev pub held : Lent → Tables
+held t = record { labels = t.labels.now; offsets = t.offsets.now; targets = t.targets.now }
 
 -- how many entries they have
 abbrev pub room_of : Tables → Room

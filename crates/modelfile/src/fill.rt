@@ -4,60 +4,66 @@ ghost use Rattle.std.specs.List.{flat_map};
 ghost use Rattle.models.specs.declared.facts.Facts.{Facts as Label};
 ghost use Rattle.codec.specs.Numbers.{counted};
 ghost use Rattle.codec.specs.Pieces.{placed};
+ghost use Rattle.codec.specs.Reading.{Stands};
 ghost use Rattle.modelfile.specs.Files.{bits_of, offsets_of, targets_of};
 ghost use Rattle.modelfile.specs.Fills.{Sequence, RowFits, RowsFit};
 
 use codec::numbers::known_number;
 use models::facts::Facts;
 
-/// Fills the front of the labels with the numbers that stand from `from` on, of which there are `count`, and answers where they end.
-pub(crate) fn fill_labels(file: &[u8], from: usize, count: u16, labels: &mut [Facts]) -> usize
-    requires { count ≤ length labels.old }
-    ensures { (ls : List Label) (next : ℕ) → length ls ≡ count → Sequence file.now from (bits_of ls) next → (result ≡ next) × (labels.new ≡ placed labels.old 0 ls) }
-{
-    let mut at = from;
-    for state in 0..count as usize {
-        let (bits, next) = known_number(file, at);
-        labels[state] = Facts { bits };
-        at = next;
-    }
-    at
+// The numbers of a file that was read before, from the one that begins at `at` on.
+#[derive(Drop)]
+pub struct Numbers<'a> {
+    pub file: &'a [u8],
+    pub at: usize,
 }
 
-// Fills the targets from `begin` on with the row that stands at `from`, and answers where the row ends in the file and in the table.
-fn fill_row(file: &[u8], from: usize, targets: &mut [u16], begin: usize) -> (usize, usize)
-    requires { RowFits file.now from (length targets.old) begin }
-    ensures { (row : List ℕ) (next : ℕ) → Sequence file.now from (counted row) next → (result.0 ≡ next) × (result.1 ≡ begin + length row) × (targets.new ≡ placed targets.old begin row) }
-{
-    let (degree, first) = known_number(file, from);
-    let count = degree as usize;
-    let mut at = first;
-    for k in 0..count {
-        let (target, next) = known_number(file, at);
-        targets[begin + k] = target as u16;
-        at = next;
+impl Numbers<'_> {
+    // Takes the next number.
+    fn number(&mut self) -> u64
+        ensures file { self.new.file ≡ self.old.file }
+        ensures next { (n next : ℕ) → Stands self.old.file.now self.old.at n next → (n ≡ result) × (next ≡ self.new.at) }
+    {
+        let (number, next) = known_number(self.file, self.at);
+        self.at = next;
+        number
     }
-    (at, begin + count)
-}
 
-/// Fills the fronts of the offsets and of the targets with the rows that stand from `from` on, one for each state.
-pub(crate) fn fill_rows(
-    file: &[u8],
-    from: usize,
-    states: u16,
-    offsets: &mut [u32],
-    targets: &mut [u16],
-)
-    requires { RowsFit file.now from states (length offsets.old) (length targets.old) }
-    ensures { (rows : List (List ℕ)) (next : ℕ) → length rows ≡ states → Sequence file.now from (flat_map counted rows) next → (offsets.new ≡ placed offsets.old 0 (offsets_of rows)) × (targets.new ≡ placed targets.old 0 (targets_of rows)) }
-{
-    let mut at = from;
-    let mut count = 0;
-    offsets[0] = 0;
-    for state in 0..states as usize {
-        let (next, end) = fill_row(file, at, targets, count);
-        at = next;
-        count = end;
-        offsets[state + 1] = end as u32;
+    /// Fills the labels with the next numbers.
+    pub fn fill_labels(&mut self, labels: &mut [Facts])
+        ensures file { self.new.file ≡ self.old.file }
+        ensures filled { (ls : List Label) (next : ℕ) → length ls ≡ length labels.old → Sequence self.old.file.now self.old.at (bits_of ls) next → (self.new.at ≡ next) × (labels.new ≡ ls) }
+    {
+        for label in labels.iter_mut() {
+            *label = Facts {
+                bits: self.number(),
+            };
+        }
+    }
+
+    // Fills a row with the next numbers.
+    fn fill_row(&mut self, row: &mut [u16])
+        requires { RowFits self.old.file.now self.old.at (length row.old) }
+        ensures file { self.new.file ≡ self.old.file }
+        ensures filled { (ts : List ℕ) (next : ℕ) → length ts ≡ length row.old → Sequence self.old.file.now self.old.at ts next → (self.new.at ≡ next) × (row.new ≡ ts) }
+    {
+        for target in row.iter_mut() {
+            *target = self.number() as u16;
+        }
+    }
+
+    /// Fills the offsets and the front of the targets with the next rows.
+    pub fn fill_rows(&mut self, offsets: &mut [u32], targets: &mut [u16])
+        requires { RowsFit self.old.file.now self.old.at (length offsets.old) (length targets.old) }
+        ensures { (rows : List (List ℕ)) (next : ℕ) → length rows + 1 ≡ length offsets.old → Sequence self.old.file.now self.old.at (flat_map counted rows) next → (offsets.new ≡ offsets_of rows) × (targets.new ≡ placed targets.old 0 (targets_of rows)) }
+    {
+        let mut end = 0;
+        offsets[0] = 0;
+        for offset in offsets[1..].iter_mut() {
+            let begin = end;
+            end += self.number() as usize;
+            self.fill_row(&mut targets[begin..end]);
+            *offset = end as u32;
+        }
     }
 }

@@ -1,10 +1,12 @@
 //! Loads a model file into lent tables.
-ghost use Rattle.modelfile.specs.Loads.{Loads, EachFileHasOneOutcome};
+ghost use Rattle.std.specs.Prelude.{◌≡◌, ◌+◌, length, take};
+ghost use Rattle.modelfile.specs.Loads.{held, room_of, Loads, EachFileHasOneOutcome};
 
 use crate::faults::FileFault;
-use crate::fill::{fill_labels, fill_rows};
+use crate::fill::Numbers;
 use crate::scan::{Room, scan};
 use models::facts::Facts;
+use models::listed::Listed;
 
 /// How many states and how many targets were loaded.
 #[derive(Clone, Copy, Debug, PartialEq, Eq)]
@@ -13,25 +15,58 @@ pub struct Loaded {
     pub targets: usize,
 }
 
+/// The tables that a model file is loaded into, lent by the caller.
+#[derive(Drop)]
+pub struct Tables<'a> {
+    pub labels: &'a mut [Facts],
+    pub offsets: &'a mut [u32],
+    pub targets: &'a mut [u16],
+}
+
+impl Tables<'_> {
+    // How many entries there are.
+    fn room(&self) -> Room
+        ensures { result ≡ room_of (held self.now) }
+    {
+        Room {
+            labels: self.labels.len(),
+            offsets: self.offsets.len(),
+            targets: self.targets.len(),
+        }
+    }
+
+    /// The model by the fronts of the tables, as long as was loaded.
+    pub fn model(&self, loaded: Loaded) -> Listed<'_, Facts>
+        ensures labels { result.labels.now ≡ take loaded.states self.now.labels.now }
+        ensures offsets { result.offsets.now ≡ take (loaded.states + 1) self.now.offsets.now }
+        ensures targets { result.targets.now ≡ take loaded.targets self.now.targets.now }
+    {
+        let states = loaded.states as usize;
+        Listed {
+            labels: &self.labels[..states.min(self.labels.len())],
+            offsets: &self.offsets[..(states + 1).min(self.offsets.len())],
+            targets: &self.targets[..loaded.targets.min(self.targets.len())],
+        }
+    }
+}
+
 /// Fills the fronts of the tables with the model that the file denotes: N labels, N + 1 offsets, where row `s` runs from
 /// offset `s` to just before offset `s + 1`, and the targets of all rows. The entries behind are left.
 /// A file that is not right is refused with its first fault, and then nothing is written.
-pub fn load(
-    file: &[u8],
-    labels: &mut [Facts],
-    offsets: &mut [u32],
-    targets: &mut [u16],
-) -> Result<Loaded, FileFault>
-    ensures { Loads file.now (record { labels = labels.old; offsets = offsets.old; targets = targets.old }) (record { labels = labels.new; offsets = offsets.new; targets = targets.new }) result }
+pub fn load(file: &[u8], tables: &mut Tables<'_>) -> Result<Loaded, FileFault>
+    ensures loads { Loads file.now (held tables.old) (held tables.new) result }
+    ensures labels { tables.new.labels.ghost_name ≡ tables.old.labels.ghost_name }
+    ensures offsets { tables.new.offsets.ghost_name ≡ tables.old.offsets.ghost_name }
+    ensures targets { tables.new.targets.ghost_name ≡ tables.old.targets.ghost_name }
 {
-    let room = Room {
-        labels: labels.len(),
-        offsets: offsets.len(),
-        targets: targets.len(),
+    let plan = scan(file, tables.room())?;
+    let states = plan.states as usize;
+    let mut numbers = Numbers {
+        file,
+        at: plan.labels_at,
     };
-    let plan = scan(file, room)?;
-    let rows_at = fill_labels(file, plan.labels_at, plan.states, labels);
-    fill_rows(file, rows_at, plan.states, offsets, targets);
+    numbers.fill_labels(&mut tables.labels[..states]);
+    numbers.fill_rows(&mut tables.offsets[..states + 1], tables.targets);
     Ok(Loaded {
         states: plan.states,
         targets: plan.targets,

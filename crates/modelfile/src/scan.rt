@@ -1,9 +1,8 @@
 //! The first pass over a file: whether it is right, and what is wrong with it first.
-ghost use Rattle.std.specs.Prelude.{◌≡◌, ◌+◌, ◌<◌, ◌≤◌, length, MatchResult};
+ghost use Rattle.std.specs.Prelude.{◌≡◌, ℕ, ◌+◌, ◌<◌, ◌≤◌, length, MatchResult};
 ghost use Rattle.modelfile.specs.Files.{longest};
 ghost use Rattle.modelfile.specs.FirstFault.{FirstFault};
-ghost use Rattle.modelfile.specs.Walks.{LabelsRead, RowsRead, TargetsRead, Opened, OneMore, Planned};
-ghost use Rattle.modelfile.specs.declared.scan.Room.{Room as Tables};
+ghost use Rattle.modelfile.specs.Plans.{Planned};
 
 use crate::faults::FileFault;
 use codec::numbers::number_at;
@@ -20,28 +19,6 @@ pub struct Room {
     pub targets: usize,
 }
 
-// A file of so many states, read up to a degree at `at`: before it so many rows with so many targets.
-#[derive(Clone, Copy)]
-pub struct Walk {
-    pub states: u16,
-    pub rows: u16,
-    pub targets: usize,
-    pub at: usize,
-}
-
-// A file read up to a target at `at`: before its row so many rows and targets, and in it the degree and `given` targets;
-// `low` is the least target that may follow.
-#[derive(Clone, Copy)]
-pub struct OpenRow {
-    pub states: u16,
-    pub rows: u16,
-    pub before: usize,
-    pub degree: u16,
-    pub given: u16,
-    pub low: u64,
-    pub at: usize,
-}
-
 // What the pass learns of a file that is right.
 #[derive(Clone, Copy)]
 pub struct Plan {
@@ -50,136 +27,124 @@ pub struct Plan {
     pub labels_at: usize,
 }
 
-// N, and where the labels begin.
-fn read_size(file: &[u8], room: Room) -> Result<(u16, usize), FileFault>
-    requires { length file.now ≤ longest }
-    ensures { MatchResult result (λ p. LabelsRead room file.now p.0 0 p.1) (FirstFault room file.now) }
-{
-    let (size, next) = number_at(file, 0)?;
-    if size == 0 || size > LIMIT as u64 {
-        return Err(FileFault::OutOfRange(0));
-    }
-    if size as usize > room.labels || size as usize >= room.offsets {
-        return Err(FileFault::TableShort(0));
-    }
-    Ok((size as u16, next))
+// A file whose N is read: so many targets are read too, and the next number begins at `at`.
+#[derive(Drop)]
+struct Reader<'a> {
+    file: &'a [u8],
+    room: Room,
+    states: u16,
+    targets: usize,
+    at: usize,
+    ghost short: { length file.now ≤ longest },
 }
 
-// Where the labels end, of which there are `states`, from `from` on. What room the tables have does not matter here.
-fn read_labels(file: &[u8], states: u16, from: usize) -> Result<usize, FileFault>
-    requires { length file.now ≤ longest }
-    ensures { (t : Tables) → LabelsRead t file.now states 0 from → MatchResult result (λ end. LabelsRead t file.now states states end) (FirstFault t file.now) }
-{
-    let mut at = from;
-    for _label in 0..states {
-        let (_facts, next) = number_at(file, at)?;
-        at = next;
-    }
-    Ok(at)
-}
+impl<'a> Reader<'a> {
+    ghost use Rattle.modelfile.specs.Walks.{LabelsRead, RowsRead, TargetsRead, SameFile, Begun};
 
-// The degree of the next row.
-fn read_degree(file: &[u8], room: Room, walk: Walk) -> Result<OpenRow, FileFault>
-    requires short { length file.now ≤ longest }
-    requires read { RowsRead room file.now walk }
-    requires more { walk.rows < walk.states }
-    ensures { MatchResult result (λ q. TargetsRead room file.now q × Opened walk q) (FirstFault room file.now) }
-{
-    let (degree, next) = number_at(file, walk.at)?;
-    if degree > walk.states as u64 {
-        return Err(FileFault::OutOfRange(walk.at));
+    // Reads N.
+    fn begin(file: &'a [u8], room: Room) -> Result<Reader<'a>, FileFault>
+        ensures { MatchResult result (Begun file.now room) (FirstFault room file.now) }
+    {
+        if file.len() > LONGEST {
+            return Err(FileFault::TooLong);
+        }
+        let (size, next) = number_at(file, 0)?;
+        if size == 0 || size > LIMIT as u64 {
+            return Err(FileFault::OutOfRange(0));
+        }
+        if size as usize > room.labels || size as usize >= room.offsets {
+            return Err(FileFault::TableShort(0));
+        }
+        Ok(Reader {
+            file,
+            room,
+            states: size as u16,
+            targets: 0,
+            at: next,
+        })
     }
-    Ok(OpenRow {
-        states: walk.states,
-        rows: walk.rows,
-        before: walk.targets,
-        degree: degree as u16,
-        given: 0,
-        low: 0,
-        at: next,
-    })
-}
 
-// The next target of a row.
-fn read_target(file: &[u8], room: Room, row: OpenRow) -> Result<OpenRow, FileFault>
-    requires short { length file.now ≤ longest }
-    requires read { TargetsRead room file.now row }
-    requires more { row.given < row.degree }
-    ensures { MatchResult result (λ q. TargetsRead room file.now q × OneMore row q) (FirstFault room file.now) }
-{
-    let (target, next) = number_at(file, row.at)?;
-    if target >= row.states as u64 {
-        return Err(FileFault::OutOfRange(row.at));
+    // Reads the labels.
+    fn labels(&mut self) -> Result<(), FileFault>
+        requires { LabelsRead self.old 0 }
+        ensures { MatchResult result (λ _. SameFile self.old self.new × LabelsRead self.new self.old.states) (FirstFault self.old.room self.old.file.now) }
+    {
+        for _label in 0..self.states {
+            let (_facts, next) = number_at(self.file, self.at)?;
+            self.at = next;
+        }
+        Ok(())
     }
-    if target < row.low {
-        return Err(FileFault::NotRising(row.at));
-    }
-    if row.before + row.given as usize >= room.targets {
-        return Err(FileFault::TableShort(row.at));
-    }
-    Ok(OpenRow {
-        given: row.given + 1,
-        low: target + 1,
-        at: next,
-        ..row
-    })
-}
 
-// The next row.
-fn read_row(file: &[u8], room: Room, walk: Walk) -> Result<Walk, FileFault>
-    requires short { length file.now ≤ longest }
-    requires read { RowsRead room file.now walk }
-    requires more { walk.rows < walk.states }
-    ensures { MatchResult result (λ w. RowsRead room file.now w × (w.states ≡ walk.states) × (w.rows ≡ walk.rows + 1)) (FirstFault room file.now) }
-{
-    let mut row = read_degree(file, room, walk)?;
-    for _given in 0..row.degree {
-        row = read_target(file, room, row)?;
+    // Reads the degree of the next row.
+    fn degree(&mut self) -> Result<u16, FileFault>
+        ensures { (rows : ℕ) → rows < self.old.states → RowsRead self.old rows → MatchResult result (λ degree. SameFile self.old self.new × TargetsRead self.new rows degree 0 0) (FirstFault self.old.room self.old.file.now) }
+    {
+        let (degree, next) = number_at(self.file, self.at)?;
+        if degree > self.states as u64 {
+            return Err(FileFault::OutOfRange(self.at));
+        }
+        self.at = next;
+        Ok(degree as u16)
     }
-    Ok(Walk {
-        states: row.states,
-        rows: row.rows + 1,
-        targets: row.before + row.degree as usize,
-        at: row.at,
-    })
-}
 
-// All rows.
-fn read_rows(file: &[u8], room: Room, start: Walk) -> Result<Walk, FileFault>
-    requires short { length file.now ≤ longest }
-    requires read { RowsRead room file.now start }
-    requires none { start.rows ≡ 0 }
-    ensures { MatchResult result (λ w. RowsRead room file.now w × (w.states ≡ start.states) × (w.rows ≡ start.states)) (FirstFault room file.now) }
-{
-    let mut walk = start;
-    for _state in 0..start.states {
-        walk = read_row(file, room, walk)?;
+    // Reads the next target of a row, of which `low` is the least that may come, and answers the least that may follow.
+    fn target(&mut self, low: u64) -> Result<u64, FileFault>
+        ensures { (rows degree given : ℕ) → given < degree → TargetsRead self.old rows degree given low → MatchResult result (λ after. SameFile self.old self.new × TargetsRead self.new rows degree (given + 1) after) (FirstFault self.old.room self.old.file.now) }
+    {
+        let (target, next) = number_at(self.file, self.at)?;
+        if target >= self.states as u64 {
+            return Err(FileFault::OutOfRange(self.at));
+        }
+        if target < low {
+            return Err(FileFault::NotRising(self.at));
+        }
+        if self.targets >= self.room.targets {
+            return Err(FileFault::TableShort(self.at));
+        }
+        self.targets += 1;
+        self.at = next;
+        Ok(target + 1)
     }
-    Ok(walk)
+
+    // Reads the next row.
+    fn row(&mut self) -> Result<(), FileFault>
+        ensures { (rows : ℕ) → rows < self.old.states → RowsRead self.old rows → MatchResult result (λ _. SameFile self.old self.new × RowsRead self.new (rows + 1)) (FirstFault self.old.room self.old.file.now) }
+    {
+        let degree = self.degree()?;
+        let mut low = 0;
+        for _target in 0..degree {
+            low = self.target(low)?;
+        }
+        Ok(())
+    }
+
+    // Reads all rows.
+    fn rows(&mut self) -> Result<(), FileFault>
+        requires { RowsRead self.old 0 }
+        ensures { MatchResult result (λ _. SameFile self.old self.new × RowsRead self.new self.old.states) (FirstFault self.old.room self.old.file.now) }
+    {
+        for _state in 0..self.states {
+            self.row()?;
+        }
+        Ok(())
+    }
 }
 
 /// What is learnt of a file that is right and that the tables can hold, or its first fault.
 pub fn scan(file: &[u8], room: Room) -> Result<Plan, FileFault>
     ensures { MatchResult result (Planned room file.now) (FirstFault room file.now) }
 {
-    if file.len() > LONGEST {
-        return Err(FileFault::TooLong);
-    }
-    let (states, labels_at) = read_size(file, room)?;
-    let rows_at = read_labels(file, states, labels_at)?;
-    let start = Walk {
-        states,
-        rows: 0,
-        targets: 0,
-        at: rows_at,
-    };
-    let end = read_rows(file, room, start)?;
-    if end.at < file.len() {
-        return Err(FileFault::LeftOver(end.at));
+    let mut reader = Reader::begin(file, room)?;
+    let labels_at = reader.at;
+    reader.labels()?;
+    reader.rows()?;
+    if reader.at < file.len() {
+        return Err(FileFault::LeftOver(reader.at));
     }
     Ok(Plan {
-        states,
-        targets: end.targets,
+        states: reader.states,
+        targets: reader.targets,
         labels_at,
     })
 }

@@ -4,10 +4,8 @@
 use anyhow::anyhow;
 use console::{Tables, no_arguments, print_fault, read_file, wants_help};
 use modelfile::LONGEST;
-use modelfile::reading::{Loaded, load};
+use modelfile::reading::load;
 use models::Model;
-use models::facts::Facts;
-use models::listed::Listed;
 use std::io::Write;
 use writing::saving::save;
 
@@ -34,21 +32,9 @@ fn write_model<M: Model>(rt: &HostRuntime, model: &M) -> anyhow::Result<()> {
 fn rewrite(rt: &HostRuntime) -> anyhow::Result<()> {
     let file = read_file(rt)?;
     let mut tables = Tables::new(rt.alloc())?;
-    match load(
-        &file,
-        &mut tables.labels,
-        &mut tables.offsets,
-        &mut tables.targets,
-    ) {
-        Ok(Loaded { states, targets }) => {
-            let n = states as usize;
-            let model = Listed {
-                labels: &tables.labels[0..n],
-                offsets: &tables.offsets[0..n + 1],
-                targets: &tables.targets[0..targets],
-            };
-            write_model(rt, &model)
-        }
+    let mut lent = tables.lend();
+    match load(&file, &mut lent) {
+        Ok(loaded) => write_model(rt, &lent.model(loaded)),
         Err(fault) => {
             print_fault(rt, fault.numbers())?;
             Ok(())

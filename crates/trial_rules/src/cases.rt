@@ -7,7 +7,7 @@ use checker::steps::Step;
 use components::Walk;
 use exchange::taking::take;
 use merger::analysis::Analysis;
-use modelfile::reading::load;
+use modelfile::reading::{self, load};
 use models::Model;
 use models::facts::Facts;
 use models::listed::Listed;
@@ -143,7 +143,12 @@ impl Cases {
         self.count(true);
         let (mut labels, mut offsets, mut targets) = ([Facts::NONE; 3], [9; 3], [9; 2]);
         let layer = if cause < 3 { 1 } else { 2 };
-        match load(bytes, &mut labels, &mut offsets, &mut targets) {
+        let mut lent = reading::Tables {
+            labels: &mut labels,
+            offsets: &mut offsets,
+            targets: &mut targets,
+        };
+        match load(bytes, &mut lent) {
             Ok(_) => self.expect(false),
             Err(fault) => {
                 let told = fault.numbers();
@@ -162,12 +167,15 @@ impl Cases {
         self.count(false);
         let tables = Tables::of(heap, model)?;
         let (mut labels, mut offsets, mut targets) = ([Facts::NONE; 3], [9; 3], [9; 2]);
+        let mut lent = reading::Tables {
+            labels: &mut labels,
+            offsets: &mut offsets,
+            targets: &mut targets,
+        };
         let loaded = take(
             &mut Analysis::new(),
             bytes,
-            &mut labels,
-            &mut offsets,
-            &mut targets,
+            &mut lent,
             &mut [Walk::BLANK; 3],
             &mut [0; 3],
         );

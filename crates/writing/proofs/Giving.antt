@@ -16,9 +16,7 @@ use Rattle.modelfile.proofs.Walking.{codes_push}
 use Rattle.writing.specs.Appends.{HasSpace}
 use Rattle.writing.specs.Saves.{rows_of, Labelled, Labels, Measured, Saved, space_of}
 use Rattle.writing.specs.Savings.{SetsFit, SetsGiven, RowsFit, RowsGiven}
-use Rattle.writing.specs.Writings.{SetsHold, RowsHold, Filed, Begun, BeginFault, SetDone, SetFault, Turned, RowDone, RowFault}
-use Rattle.writing.specs.declared.protocol.Rows.{Rows}
-use Rattle.writing.specs.declared.protocol.Sets.{Sets}
+use Rattle.writing.specs.Writings.{Sets, Rows, SetsHold, RowsHold, Filed, Begun, BeginFault, SetDone, SetFault, Turned, RowDone, RowFault}
 use Rattle.writing.specs.declared.protocol.WriteFault.{WriteFault}
 use Rattle.writing.specs.declared.protocol.WriteFault.TheVariants.{BadSize, NoSpace, AllGiven, Missing, BadRow}
 use Rattle.writing.proofs.Labelling.{labelled_none, labelled_more, labels_front}

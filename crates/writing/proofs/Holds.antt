@@ -11,9 +11,7 @@ use Rattle.codec.proofs.Places.{length-placed, take-placed}
 use Rattle.modelfile.specs.Files.{bits_of, file_of, numbers, RisingRow, Wide}
 use Rattle.modelfile.proofs.Walking.{codes_push, numbers_push}
 use Rattle.writing.specs.Appends.{HasSpace}
-use Rattle.writing.specs.Writings.{SetsHold, RowsHold, Filed, Begun, SetDone, Turned, RowDone}
-use Rattle.writing.specs.declared.protocol.Rows.{Rows}
-use Rattle.writing.specs.declared.protocol.Sets.{Sets}
+use Rattle.writing.specs.Writings.{Sets, Rows, SetsHold, RowsHold, Filed, Begun, SetDone, Turned, RowDone}
 
 -- a piece behind what the buffer begins with
 module _ (before after piece front : List ℕ) (len : ℕ) (space : HasSpace before len piece) (text : after ≡ placed before len piece) where

@@ -3,4 +3,5 @@ pub mod Holds
 pub mod Labelling
 pub mod Measuring
 pub mod Giving
+pub mod Risings
 pub mod Trips

@@ -3,7 +3,7 @@ use Rattle.std.proofs.Common.{◌≡◌, ℕ, ◌+◌, ◌-◌, ◌<◌, ◌≤�
 use Rattle.std.specs.List.{AllByRecursion}
 use Rattle.std.proofs.lemmas.List.FromFn.{length-map-range_with_len, get_or-map-range_with_len}
 use Rattle.std.proofs.ByRecursion.{All-push}
-use Rattle.std.proofs.lemmas.List.{append-nil, length-append, take_all, take_at, take_more}
+use Rattle.std.proofs.lemmas.List.{append-nil, drop_all, length-append, take_all, take_more}
 use Rattle.kripke.specs.Models.{Kripke}
 use Rattle.models.specs.declared.facts.Facts.{Facts}
 use Rattle.codec.specs.Numbers.{code, codes, counted}
@@ -39,9 +39,10 @@ file_longer M labels s h = ap length (sym (file_next M labels s h)) ∙ length-a
 pub file_none : (labels : List Facts) (n : ℕ) → length labels ≡ n → codes (n ∷ bits_of labels) ≡ file_of labels []
 file_none labels n e = ap (λ m. codes (m ∷ bits_of labels)) (sym e) ∙ ap codes (sym (append-nil (length labels ∷ bits_of labels)))
 
--- the front of a table with a row in it
-pub front_row : (before table row : List ℕ) (n : ℕ) → table ≡ placed before 0 row → n ≡ length row → take n table ≡ row
-front_row before table row n e many = ap (take n) e ∙ take_at row (drop (0 + length row) before) n (sym many)
+-- a table that is just as long as the row that is put into it
+pub whole_row : (before table row : List ℕ) (k : ℕ) → length before ≡ length row → length row ≤ k → table ≡ placed before 0 (take k row) → table ≡ row
+whole_row before table row k long all e =
+    e ∙ (ap (placed before 0) (take_all k row all) ∙ (ap (λ ns. row ++ ns) (drop_all (0 + length row) before (omega arith)) ∙ append-nil row))
 
 -- all labels and the first rows fit
 pub record RowsMeasured (M : Kripke) (space count len : ℕ) : Type 0 where

@@ -7,9 +7,7 @@ use Rattle.codec.specs.Numbers.{codes, counted}
 use Rattle.codec.specs.Pieces.{placed}
 use Rattle.modelfile.specs.Files.{bits_of, RisingRow}
 use Rattle.writing.specs.Saves.{rows_of, Labelled, Labels, space_of}
-use Rattle.writing.specs.Writings.{SetsHold, RowsHold}
-use Rattle.writing.specs.declared.protocol.Rows.{Rows}
-use Rattle.writing.specs.declared.protocol.Sets.{Sets}
+use Rattle.writing.specs.Writings.{Sets, Rows, SetsHold, RowsHold}
 use Rattle.writing.specs.declared.protocol.WriteFault.{WriteFault}
 use Rattle.writing.specs.declared.protocol.WriteFault.TheVariants.{BadSize, NoSpace, AllGiven, Missing, BadRow}
 

@@ -7,10 +7,18 @@ use Rattle.codec.specs.Pieces.{placed}
 use Rattle.modelfile.specs.Files.{bits_of, file_of, longest, Sized, RisingRow, Wide, Valid}
 use Rattle.writing.specs.Appends.{HasSpace}
 use Rattle.writing.specs.declared.protocol.Refused.{Refused}
-use Rattle.writing.specs.declared.protocol.Rows.{Rows}
-use Rattle.writing.specs.declared.protocol.Sets.{Sets}
+use Rattle.writing.specs.declared.protocol.TakesRows.{TakesRows}
+use Rattle.writing.specs.declared.protocol.TakesSets.{TakesSets}
 use Rattle.writing.specs.declared.protocol.WriteFault.{WriteFault}
 use Rattle.writing.specs.declared.protocol.WriteFault.TheVariants.{BadSize, NoSpace, AllGiven, Missing, BadRow}
+use Rattle.writing.specs.declared.protocol.Writing.{Writing}
+
+-- what a writing takes
+abbrev pub Sets : Type 0
+Sets = Writing TakesSets
+
+abbrev pub Rows : Type 0
+Rows = Writing TakesRows
 
 -- the number of each refusal
 abbrev pub write_cause : WriteFault → ℕ
@@ -53,7 +61,7 @@ pub record Filed (buffer : List ℕ) (len : ℕ) (labels : List Facts) (rows : L
 pub record Begun (states : ℕ) (before after : List ℕ) (is : Sets) : Type 0 where
   pub sized : Sized states
   pub space : HasSpace before 0 (code states)
-  pub state : is ≡ record { states = states; given = 0; len = length (code states) }
+  pub state : is ≡ record { states = states; given = 0; len = length (code states); part = record {} }
   pub text : after ≡ placed before 0 (code states)
 
 abbrev pub BeginFault : ℕ → List ℕ → WriteFault → Type 0
@@ -67,7 +75,7 @@ BeginFault states before BadRow = ⊥
 pub record SetDone (was : Sets) (facts : Facts) (before after : List ℕ) (is : Sets) : Type 0 where
   pub more : was.given < was.states
   pub space : HasSpace before was.len (code facts.bits)
-  pub state : is ≡ record { states = was.states; given = was.given + 1; len = was.len + length (code facts.bits) }
+  pub state : is ≡ record was { given = was.given + 1; len = was.len + length (code facts.bits) }
   pub text : after ≡ placed before was.len (code facts.bits)
 
 abbrev pub SetFault : Sets → Facts → List ℕ → WriteFault → Type 0
@@ -80,14 +88,14 @@ SetFault was facts before BadRow = ⊥
 -- rows: the sets are complete, and nothing is written
 pub record Turned (was : Sets) (is : Rows) : Type 0 where
   pub full : was.states ≤ was.given
-  pub state : is ≡ record { states = was.states; given = 0; len = was.len }
+  pub state : is ≡ record { states = was.states; given = 0; len = was.len; part = record {} }
 
 -- row: the degree and the targets are written behind what there was
 pub record RowDone (was : Rows) (row : List ℕ) (before after : List ℕ) (is : Rows) : Type 0 where
   pub more : was.given < was.states
   pub rising : RisingRow was.states row
   pub space : HasSpace before was.len (codes (counted row))
-  pub state : is ≡ record { states = was.states; given = was.given + 1; len = was.len + length (codes (counted row)) }
+  pub state : is ≡ record was { given = was.given + 1; len = was.len + length (codes (counted row)) }
   pub text : after ≡ placed before was.len (codes (counted row))
 
 abbrev pub RowFault : Rows → List ℕ → List ℕ → WriteFault → Type 0

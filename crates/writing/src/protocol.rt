@@ -8,6 +8,7 @@ ghost use Rattle.writing.specs.Writings.{write_cause, SetsHold, RowsHold, Filed,
 use crate::append::{append_number, append_row};
 use kripke::LIMIT;
 use models::facts::Facts;
+use std::marker::PhantomData;
 
 /// Why a call of a writing is refused.
 #[derive(Clone, Copy, Debug, PartialEq, Eq)]
@@ -55,21 +56,26 @@ impl<W: Drop> From<Refused<W>> for WriteFault {
     }
 }
 
-/// A writing that takes the sets of facts: N, how many are given, and how many bytes are written.
+/// Says of a writing that it takes the sets of facts.
+#[derive(Clone, Copy, Debug)]
+pub struct TakesSets;
+
+/// Says of a writing that it takes the rows.
+#[derive(Clone, Copy, Debug)]
+pub struct TakesRows;
+
+/// A writing: N, how many of what it takes are given, and how many bytes are written.
 #[derive(Debug, Drop)]
-pub struct Sets {
+pub struct Writing<P> {
     states: u16,
     given: u16,
     len: usize,
+    part: PhantomData<P>,
 }
 
-/// A writing that takes the rows.
-#[derive(Debug, Drop)]
-pub struct Rows {
-    states: u16,
-    given: u16,
-    len: usize,
-}
+pub type Sets = Writing<TakesSets>;
+
+pub type Rows = Writing<TakesRows>;
 
 /// Begins a writing: writes N at the buffer's front.
 pub fn begin(buffer: &mut [u8], states: u16) -> Result<Sets, WriteFault>
@@ -79,46 +85,59 @@ pub fn begin(buffer: &mut [u8], states: u16) -> Result<Sets, WriteFault>
     if states == 0 || states > LIMIT {
         return Err(WriteFault::BadSize);
     }
-    match append_number(states as u64, buffer, 0) {
-        Some(len) => Ok(Sets {
-            states,
-            given: 0,
+    let len = append_number(states as u64, buffer, 0).ok_or(WriteFault::NoSpace)?;
+    Ok(Writing {
+        states,
+        given: 0,
+        len,
+        part: PhantomData,
+    })
+}
+
+impl<P> Writing<P> {
+    // Whether what the writing takes is given for each state.
+    fn is_full(&self) -> bool
+        ensures { MatchBool result (self.now.states ≤ self.now.given) (self.now.given < self.now.states) }
+    {
+        self.given >= self.states
+    }
+
+    // The writing with what it takes given for one state more, and `len` bytes written.
+    fn with_next(self, len: usize) -> Writing<P>
+        requires { self.given < self.states }
+        ensures { result ≡ record self { given = self.given + 1; len = len } }
+    {
+        Writing {
+            given: self.given + 1,
             len,
-        }),
-        None => Err(WriteFault::NoSpace),
+            ..self
+        }
+    }
+
+    // The refusal that hands the writing back.
+    fn refused(self, fault: WriteFault) -> Refused<Writing<P>>
+        ensures { result ≡ record { fault = fault; writing = self } }
+    {
+        Refused {
+            fault,
+            writing: self,
+        }
     }
 }
 
-impl Sets {
-    // Whether sets are still missing.
-    fn lacks_sets(&self) -> bool
-        ensures { MatchBool result (self.now.given < self.now.states) (self.now.states ≤ self.now.given) }
-    {
-        self.given < self.states
-    }
-
+impl Writing<TakesSets> {
     /// Gives the facts of the next state.
     pub fn set(self, buffer: &mut [u8], facts: Facts) -> Result<Sets, Refused<Sets>>
         ensures answer { MatchResult result (SetDone self facts buffer.old buffer.new) (λ e. HandsBack self (SetFault self facts buffer.old) e × (buffer.new ≡ buffer.old)) }
         ensures holds { IfOk result (λ s. ((labels : List Label) → SetsHold buffer.old self labels → SetsHold buffer.new s (labels ++ (facts ∷ [])))) }
     {
-        if !self.lacks_sets() {
-            return Err(Refused {
-                fault: WriteFault::AllGiven,
-                writing: self,
-            });
+        if self.is_full() {
+            return Err(self.refused(WriteFault::AllGiven));
         }
-        match append_number(facts.bits, buffer, self.len) {
-            Some(len) => Ok(Sets {
-                states: self.states,
-                given: self.given + 1,
-                len,
-            }),
-            None => Err(Refused {
-                fault: WriteFault::NoSpace,
-                writing: self,
-            }),
-        }
+        let Some(len) = append_number(facts.bits, buffer, self.len) else {
+            return Err(self.refused(WriteFault::NoSpace));
+        };
+        Ok(self.with_next(len))
     }
 
     /// Ends the sets: the writing then takes rows.
@@ -126,16 +145,14 @@ impl Sets {
         ensures answer { MatchResult result (Turned self) (HandsBack self (Lacks self.given self.states)) }
         ensures holds { IfOk result (λ w. ((buffer : List ℕ) (labels : List Label) → SetsHold buffer self labels → RowsHold buffer w labels [])) }
     {
-        if self.lacks_sets() {
-            return Err(Refused {
-                fault: WriteFault::Missing,
-                writing: self,
-            });
+        if !self.is_full() {
+            return Err(self.refused(WriteFault::Missing));
         }
-        Ok(Rows {
+        Ok(Writing {
             states: self.states,
             given: 0,
             len: self.len,
+            part: PhantomData,
         })
     }
 }
@@ -144,52 +161,25 @@ impl Sets {
 pub(crate) fn is_rising(targets: &[u16], states: u16) -> bool
     ensures { MatchBool result (RisingRow states targets.now) (RisingRow states targets.now → ⊥) }
 {
-    let mut low = 0;
-    for target in targets {
-        if *target < low || *target >= states {
-            return false;
-        }
-        low = *target + 1;
-    }
-    true
+    targets.last().is_none_or(|last| *last < states) && targets.is_sorted_by(|a, b| a < b)
 }
 
-impl Rows {
-    // Whether rows are still missing.
-    fn lacks_rows(&self) -> bool
-        ensures { MatchBool result (self.now.given < self.now.states) (self.now.states ≤ self.now.given) }
-    {
-        self.given < self.states
-    }
-
+impl Writing<TakesRows> {
     /// Gives the targets of the next state.
     pub fn row(self, buffer: &mut [u8], targets: &[u16]) -> Result<Rows, Refused<Rows>>
         ensures answer { MatchResult result (RowDone self targets.now buffer.old buffer.new) (λ e. HandsBack self (RowFault self targets.now buffer.old) e × (buffer.new ≡ buffer.old)) }
         ensures holds { IfOk result (λ w. ((labels : List Label) (rows : List (List ℕ)) → RowsHold buffer.old self labels rows → RowsHold buffer.new w labels (rows ++ (targets.now ∷ [])))) }
     {
-        if !self.lacks_rows() {
-            return Err(Refused {
-                fault: WriteFault::AllGiven,
-                writing: self,
-            });
+        if self.is_full() {
+            return Err(self.refused(WriteFault::AllGiven));
         }
         if !is_rising(targets, self.states) {
-            return Err(Refused {
-                fault: WriteFault::BadRow,
-                writing: self,
-            });
+            return Err(self.refused(WriteFault::BadRow));
         }
-        match append_row(targets, buffer, self.len) {
-            Some(len) => Ok(Rows {
-                states: self.states,
-                given: self.given + 1,
-                len,
-            }),
-            None => Err(Refused {
-                fault: WriteFault::NoSpace,
-                writing: self,
-            }),
-        }
+        let Some(len) = append_row(targets, buffer, self.len) else {
+            return Err(self.refused(WriteFault::NoSpace));
+        };
+        Ok(self.with_next(len))
     }
 
     /// Ends the writing, and answers the file's length.
@@ -197,11 +187,8 @@ impl Rows {
         ensures answer { MatchResult result (λ len. (len ≡ self.len) × (self.states ≤ self.given)) (HandsBack self (Lacks self.given self.states)) }
         ensures holds { IfOk result (λ len. ((buffer : List ℕ) (labels : List Label) (rows : List (List ℕ)) → RowsHold buffer self labels rows → Filed buffer len labels rows)) }
     {
-        if self.lacks_rows() {
-            return Err(Refused {
-                fault: WriteFault::Missing,
-                writing: self,
-            });
+        if !self.is_full() {
+            return Err(self.refused(WriteFault::Missing));
         }
         Ok(self.len)
     }

@@ -9,9 +9,9 @@ ghost use Rattle.writing.specs.Savings.{MeasuredRow, SetsFit, SetsGiven, RowsFit
 ghost use Rattle.writing.specs.Trips.{ClosedLoadsBack, SavedLoadsBack, LoadedSavesBack, OneSaving};
 ghost use Rattle.writing.specs.Writings.{RowsHold, RowDone, RowFault, HandsBack};
 
-use crate::protocol::{Refused, Rows, Sets, WriteFault, begin, is_rising};
+use crate::protocol::{Rows, Sets, WriteFault, begin, is_rising};
 use codec::numbers::{counted_width, width};
-use kripke::NOWHERE;
+use kripke::{LIMIT, NOWHERE};
 use modelfile::LONGEST;
 use models::Model;
 
@@ -21,52 +21,35 @@ fn labels_width<M: Model>(model: &M) -> usize
 {
     let states = model.size();
     let mut wide = width(states as u64);
+    // Kept: of a `map` and `sum` here the check leaves open whose labels have these widths, and that the sum fits.
     for s in 0..states {
-        let next = width(model.facts(s).bits);
-        wide += next;
+        wide += width(model.facts(s).bits);
     }
     wide
 }
 
-// Copies the moves of a state to the front of `row`, and answers how many there are.
-fn gather<M: Model>(model: &M, s: u16, row: &mut [u16]) -> usize
-    requires { length row.old ≡ 4096 }
-    ensures count { result ≡ length ((M.Model.means model.now).frame.row s) }
-    ensures few { result ≤ length row.new }
-    ensures moves { row.new ≡ placed row.old 0 ((M.Model.means model.now).frame.row s) }
+// A table with room for the moves of any state.
+type Row = [u16; LIMIT as usize];
+
+// The moves of a state, gathered at the front of `row`.
+fn gather<'r, M: Model>(model: &M, s: u16, row: &'r mut Row) -> &'r [u16]
+    ensures { result.now ≡ (M.Model.means model.now).frame.row s }
 {
-    let degree = model.degree(s);
-    for k in 0..degree {
-        row[k as usize] = model.target(s, k).unwrap_or(NOWHERE);
+    let moves = &mut row[..model.degree(s) as usize];
+    for (k, target) in moves.iter_mut().enumerate() {
+        *target = model.target(s, k as u16).unwrap_or(NOWHERE);
     }
-    degree as usize
+    moves
 }
 
 // How many bytes a row takes of those that are left, or why it is refused.
-fn measure_row(targets: &[u16], states: u16, left: usize) -> Result<usize, WriteFault>
+fn row_width(targets: &[u16], states: u16, left: usize) -> Result<usize, WriteFault>
     ensures { MeasuredRow targets.now states left result }
 {
     if !is_rising(targets, states) {
         return Err(WriteFault::BadRow);
     }
-    match counted_width(targets, left) {
-        Some(wide) => Ok(wide),
-        None => Err(WriteFault::NoSpace),
-    }
-}
-
-// The same of the row of a state, by way of `row`.
-fn measure_state<M: Model>(
-    model: &M,
-    s: u16,
-    row: &mut [u16],
-    left: usize,
-) -> Result<usize, WriteFault>
-    requires { length row.old ≡ 4096 }
-    ensures { MeasuredRow ((M.Model.means model.now).frame.row s) (M.Model.means model.now).frame.size left result }
-{
-    let degree = gather(model, s, row);
-    measure_row(&row[0..degree], model.size(), left)
+    counted_width(targets, left).ok_or(WriteFault::NoSpace)
 }
 
 // How many bytes the file of the model takes of the space, or why it is refused.
@@ -81,10 +64,9 @@ fn measure<M: Model>(model: &M, space: usize) -> Result<usize, WriteFault>
     if len > space {
         return Err(WriteFault::NoSpace);
     }
-    let mut row = [0; 4096];
+    let mut row: Row = [0; LIMIT as usize];
     for s in 0..states {
-        let wide = measure_state(model, s, &mut row, space - len)?;
-        len += wide;
+        len += row_width(gather(model, s, &mut row), states, space - len)?;
     }
     Ok(len)
 }
@@ -101,31 +83,15 @@ fn give_sets<M: Model>(model: &M, buffer: &mut [u8], start: Sets) -> Result<Sets
     Ok(sets)
 }
 
-// Gives the row of a state, by way of `row`.
-fn give_row<M: Model>(
-    model: &M,
-    s: u16,
-    rows: Rows,
-    buffer: &mut [u8],
-    row: &mut [u16],
-) -> Result<Rows, Refused<Rows>>
-    requires { length row.old ≡ 4096 }
-    ensures answer { MatchResult result (RowDone rows ((M.Model.means model.now).frame.row s) buffer.old buffer.new) (λ e. HandsBack rows (RowFault rows ((M.Model.means model.now).frame.row s) buffer.old) e) }
-    ensures holds { IfOk result (λ w. ((labels : List Label) (before : List (List ℕ)) → RowsHold buffer.old rows labels before → RowsHold buffer.new w labels (before ++ ((M.Model.means model.now).frame.row s ∷ [])))) }
-{
-    let degree = gather(model, s, row);
-    rows.row(buffer, &row[0..degree])
-}
-
 // Gives the row of each state.
 fn give_rows<M: Model>(model: &M, buffer: &mut [u8], start: Rows) -> Result<Rows, WriteFault>
     requires { RowsFit (M.Model.means model.now) buffer.old start }
     ensures { MatchResult result (RowsGiven (M.Model.means model.now) buffer.old buffer.new start (M.Model.means model.now).frame.size) (λ _. ⊥) }
 {
     let mut rows = start;
-    let mut row = [0; 4096];
+    let mut row: Row = [0; LIMIT as usize];
     for s in 0..model.size() {
-        rows = give_row(model, s, rows, buffer, &mut row)?;
+        rows = rows.row(buffer, gather(model, s, &mut row))?;
     }
     Ok(rows)
 }

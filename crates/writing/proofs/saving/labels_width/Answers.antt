@@ -19,7 +19,7 @@ overflow_add-wide g c =
     let more = code_few c.facts.result.bits small in
     let few : (g.M.Model.means c.args.model.now).frame.size ≤ 4096 = (g.M.Model.formed c.args.model.now).frame.few_states in
     let low : c.loop-s.s < 4096 = omega arith in
-    let sum : c.loop-s.wide + c.width-next.result < 2 ^ 64 = omega (arith, c.loop-s.invariant.1) in
+    let sum : c.loop-s.wide + c.width-wide-in-loop-s.result < 2 ^ 64 = omega (arith, c.loop-s.invariant.1) in
     search rules
 
 pub loop-s-preserved : goal.loop-s-preserved

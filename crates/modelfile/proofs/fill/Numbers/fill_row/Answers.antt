@@ -1,0 +1,38 @@
+use Rattle.std.proofs.Common.{ℕ, ◌<◌, ◌≤◌, List, map, length, get_or, sym, refl, ◌∙◌, subst, arith, rules}
+use Rattle.std.proofs.ByRecursion.{All-get_or}
+use Rattle.std.proofs.lemmas.List.{map-id}
+use Rattle.modelfile.specs.Fills.{Sequence}
+use Rattle.modelfile.proofs.Filling.{fill_none, fill_next, fill_step, fill_all}
+use Rattle.modelfile.proofs.fill.Numbers.fill_row.Goals as goal
+
+pub loop-target-init : goal.loop-target-init
+loop-target-init c = (
+  refl,
+  λ row next many seq.
+      fill_none (λ (t : ℕ). t) (λ (t : ℕ). t) (λ t. refl) _ c.args.row.now row many _ next (subst (λ (ts : List ℕ). Sequence c.args.self.now.file.now c.args.self.now.at ts next) (sym (map-id row)) seq),
+)
+
+pub overflow_cast-target : goal.overflow_cast-target
+overflow_cast-target c =
+    let row = c.requires.row in
+    let many = c.requires.many in
+    let more : c.loop-target.target-index < length row = omega arith in
+    let here = c.loop-target.invariant.1 row c.requires.next many c.requires.stands in
+    let is = fill_next (λ (t : ℕ). t) (λ (t : ℕ). t) (λ t. refl) _ _ row many _ _ _ _ _ _ 0 more here (rw c.loop-target.invariant.0 at c.number.ensures.next) in
+    let low : get_or row c.loop-target.target-index 0 < 4096 = All-get_or (λ t. t < 4096) row c.loop-target.target-index 0 more c.requires.short in
+    let small : c.number.result < 4096 = omega (arith, is.0) in
+    search rules
+
+pub loop-target-preserved : goal.loop-target-preserved
+loop-target-preserved c =
+    let same = c.loop-target.invariant.0 in (
+      c.number.ensures.file ∙ same,
+      λ row next many seq.
+          let more : c.loop-target.target-index < length row = omega arith in
+          fill_step (λ (t : ℕ). t) (λ (t : ℕ). t) (λ t. refl) _ _ row many _ _ _ next _ _ 0 more (c.loop-target.invariant.1 row next many seq) (rw same at c.number.ensures.next),
+    )
+
+pub returns-clause-filled : goal.returns-clause-filled
+returns-clause-filled c row next many seq =
+    let all : length row ≤ c.loop-target.target-index = omega arith in
+    fill_all (λ (t : ℕ). t) (λ (t : ℕ). t) (λ t. refl) _ _ row many _ _ _ next all (c.loop-target.invariant.1 row next many seq)
