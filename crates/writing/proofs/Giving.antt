@@ -16,7 +16,9 @@ use Rattle.modelfile.proofs.Walking.{codes_push}
 use Rattle.writing.specs.Appends.{HasSpace}
 use Rattle.writing.specs.Saves.{rows_of, Labelled, Labels, Measured, Saved, space_of}
 use Rattle.writing.specs.Savings.{SetsFit, SetsGiven, RowsFit, RowsGiven}
-use Rattle.writing.specs.Writings.{Sets, Rows, SetsHold, RowsHold, Filed, Begun, BeginFault, SetDone, SetFault, Turned, RowDone, RowFault}
+use Rattle.writing.specs.Writings.{SetsHold, RowsHold, Filed, Begun, BeginFault, SetDone, SetFault, Turned, RowDone, RowFault}
+use Rattle.writing.specs.declared.protocol.Rows.{Rows}
+use Rattle.writing.specs.declared.protocol.Sets.{Sets}
 use Rattle.writing.specs.declared.protocol.WriteFault.{WriteFault}
 use Rattle.writing.specs.declared.protocol.WriteFault.TheVariants.{BadSize, NoSpace, AllGiven, Missing, BadRow}
 use Rattle.writing.proofs.Labelling.{labelled_none, labelled_more, labels_front}
@@ -33,18 +35,18 @@ bits-code_push labels facts = codes_push (bits_of labels) facts.bits ∙ ap code
 bits-code_longer : (labels : List Facts) (facts : Facts) → length (codes (bits_of (labels ++ (facts ∷ [])))) ≡ length (codes (bits_of labels)) + length (code facts.bits)
 bits-code_longer labels facts = ap length (sym (bits-code_push labels facts)) ∙ length-append (codes (bits_of labels)) (code facts.bits)
 
-pub sets_none : (M : Kripke) (before : List ℕ) (was : Sets) → was.states ≡ M.frame.size → was.given ≡ 0 → SetsGiven M before before was 0 was
+pub sets_none : (M : Kripke) (before : List ℕ) (was : Sets) → was.sets.states ≡ M.frame.size → was.sets.given ≡ 0 → SetsGiven M before before was 0 was
 sets_none M before was states none = record {
   labels = [];
   are = labelled_none M;
   states = states;
   given = none;
-  text = sym (placed-none before was.len);
+  text = sym (placed-none before was.sets.len);
   long = omega arith;
   holds = λ h. h;
 }
 
-pub sets_more : (M : Kripke) (before buffer after : List ℕ) (start : Sets) (count : ℕ) (was is : Sets) (facts : Facts) → start.len ≤ length before → SetsGiven M before buffer start count was → Wide facts → SameWords (fact_words facts) (words_at M count) → SetDone was facts buffer after is →
+pub sets_more : (M : Kripke) (before buffer after : List ℕ) (start : Sets) (count : ℕ) (was is : Sets) (facts : Facts) → start.sets.len ≤ length before → SetsGiven M before buffer start count was → Wide facts → SameWords (fact_words facts) (words_at M count) → SetDone was facts buffer after is →
     ((labels : List Facts) → SetsHold buffer was labels → SetsHold after is (labels ++ (facts ∷ []))) → SetsGiven M before after start (count + 1) is
 sets_more M before buffer after start count was is facts inside old wide same done holds =
     let labels = old.labels in
@@ -52,10 +54,10 @@ sets_more M before buffer after start count was is facts inside old wide same do
     record {
       labels = labels ++ (facts ∷ []);
       are = labelled_more M count labels facts old.are wide same;
-      states = ap (λ (s : Sets). s.states) done.state ∙ old.states;
-      given = ap (λ (s : Sets). s.given) done.state ∙ ap (λ k. k + 1) given;
-      text = placed_then before buffer after (codes (bits_of labels)) (code facts.bits) start.len was.len inside old.text old.long done.text ∙ ap (placed before start.len) (bits-code_push labels facts);
-      long = ap (λ (s : Sets). s.len) done.state ∙ let long = old.long in omega (arith, bits-code_longer labels facts);
+      states = ap (λ (s : Sets). s.sets.states) done.state ∙ old.states;
+      given = ap (λ (s : Sets). s.sets.given) done.state ∙ ap (λ k. k + 1) given;
+      text = placed_then before buffer after (codes (bits_of labels)) (code facts.bits) start.sets.len was.sets.len inside old.text old.long done.text ∙ ap (placed before start.sets.len) (bits-code_push labels facts);
+      long = ap (λ (s : Sets). s.sets.len) done.state ∙ let long = old.long in omega (arith, bits-code_longer labels facts);
       holds = λ base. holds labels (old.holds base);
     }
 
@@ -71,7 +73,7 @@ set_absurd M before buffer start count was facts NoSpace fit old kept h wide sam
     let long = old.long in
     let fits = fit.fits in
     let more = labelled_more M count old.labels facts old.are wide same in
-    f.1 (has_space before buffer (code facts.bits) was.len kept
+    f.1 (has_space before buffer (code facts.bits) was.sets.len kept
     (omega (arith, bits-code_longer old.labels facts, bits-code_upto M (count + 1) (old.labels ++ (facts ∷ [])) fit.labels more fit.are (omega arith))))
 set_absurd M before buffer start count was facts AllGiven fit old kept h wide same f = let states = old.states in let given = old.given in omega arith
 set_absurd M before buffer start count was facts Missing fit old kept h wide same f = f
@@ -94,25 +96,25 @@ rows_code_upto rows count =
     ∙ joined-append code (flat_map counted (take count rows)) (flat_map counted (drop count rows))) in
     omega (arith, simp length-append at (ap length parts))
 
-pub rows_none : (M : Kripke) (before : List ℕ) (was : Rows) → was.states ≡ M.frame.size → was.given ≡ 0 → RowsGiven M before before was 0 was
+pub rows_none : (M : Kripke) (before : List ℕ) (was : Rows) → was.rows.states ≡ M.frame.size → was.rows.given ≡ 0 → RowsGiven M before before was 0 was
 rows_none M before was states none = record {
   states = states;
   given = none;
-  text = sym (placed-none before was.len);
+  text = sym (placed-none before was.rows.len);
   long = omega arith;
   holds = λ labels h. h;
 }
 
-pub rows_more : (M : Kripke) (before buffer after : List ℕ) (start : Rows) (count : ℕ) (was is : Rows) → start.len ≤ length before → count < M.frame.size → RowsGiven M before buffer start count was → RowDone was (M.frame.row count) buffer after is →
+pub rows_more : (M : Kripke) (before buffer after : List ℕ) (start : Rows) (count : ℕ) (was is : Rows) → start.rows.len ≤ length before → count < M.frame.size → RowsGiven M before buffer start count was → RowDone was (M.frame.row count) buffer after is →
     ((labels : List Facts) (rows : List (List ℕ)) → RowsHold buffer was labels rows → RowsHold after is labels (rows ++ (M.frame.row count ∷ []))) → RowsGiven M before after start (count + 1) is
 rows_more M before buffer after start count was is inside h old done holds =
     let given = old.given in
     let next = rows_code_next M count h in
     record {
-      states = ap (λ (w : Rows). w.states) done.state ∙ old.states;
-      given = ap (λ (w : Rows). w.given) done.state ∙ ap (λ k. k + 1) given;
-      text = placed_then before buffer after (rows_code (take count (rows_of M))) (codes (counted (M.frame.row count))) start.len was.len inside old.text old.long done.text ∙ ap (placed before start.len) next;
-      long = ap (λ (w : Rows). w.len) done.state
+      states = ap (λ (w : Rows). w.rows.states) done.state ∙ old.states;
+      given = ap (λ (w : Rows). w.rows.given) done.state ∙ ap (λ k. k + 1) given;
+      text = placed_then before buffer after (rows_code (take count (rows_of M))) (codes (counted (M.frame.row count))) start.rows.len was.rows.len inside old.text old.long done.text ∙ ap (placed before start.rows.len) next;
+      long = ap (λ (w : Rows). w.rows.len) done.state
           ∙ let long = old.long in omega (arith, ap length next, length-append (rows_code (take count (rows_of M))) (codes (counted (M.frame.row count))));
       holds = λ labels base. subst (λ rs. RowsHold after is labels rs) (sym (rows_next M count h)) (holds labels (take count (rows_of M)) (old.holds labels base));
     }
@@ -123,7 +125,7 @@ row_absurd M before buffer start count was NoSpace fit old kept h f =
     let long = old.long in
     let fits = fit.fits in
     let next = rows_code_next M count h in
-    f.2 (has_space before buffer (codes (counted (M.frame.row count))) was.len kept
+    f.2 (has_space before buffer (codes (counted (M.frame.row count))) was.rows.len kept
     (omega (arith, ap length next, length-append (rows_code (take count (rows_of M))) (codes (counted (M.frame.row count))), rows_code_upto (rows_of M) (count + 1))))
 row_absurd M before buffer start count was AllGiven fit old kept h f = let states = old.states in let given = old.given in omega arith
 row_absurd M before buffer start count was Missing fit old kept h f = f
@@ -166,15 +168,15 @@ module _ (M : Kripke) (before : List ℕ) (len n : ℕ) (measured : Measured M (
   begin_absurd BadRow h = h
 
   module _ (first : List ℕ) (begun : Sets) (done : Begun n before first begun) (kept : length first ≡ length before) where
-    begun-len : begun.len ≡ length (code n)
-    begun-len = ap (λ (s : Sets). s.len) done.state
+    begun-len : begun.sets.len ≡ length (code n)
+    begun-len = ap (λ (s : Sets). s.sets.len) done.state
 
     pub sets_fit : SetsFit M first begun
     sets_fit = record {
       labels = measured.labels;
       are = measured.are;
-      states = ap (λ (s : Sets). s.states) done.state ∙ is_size;
-      none = ap (λ (s : Sets). s.given) done.state;
+      states = ap (λ (s : Sets). s.sets.states) done.state ∙ is_size;
+      none = ap (λ (s : Sets). s.sets.given) done.state;
       fits = omega (arith, whole, begun-len);
     }
 
@@ -185,16 +187,16 @@ module _ (M : Kripke) (before : List ℕ) (len n : ℕ) (measured : Measured M (
           labels_front M M.frame.size M.frame.size given.labels measured.labels given.are measured.are (omega arith)
           ∙ take_all M.frame.size measured.labels (omega arith)
 
-      turned-len : turned.len ≡ length (code n) + length (codes (bits_of measured.labels))
+      turned-len : turned.rows.len ≡ length (code n) + length (codes (bits_of measured.labels))
       turned-len =
-          ap (λ (w : Rows). w.len) done_sets.state
+          ap (λ (w : Rows). w.rows.len) done_sets.state
           ∙ (given.long ∙ (ap (λ k. k + length (codes (bits_of given.labels))) begun-len ∙ ap (λ ls. length (code n) + length (codes (bits_of ls))) same-labels))
 
       pub rows_fit : RowsFit M second turned
       rows_fit = record {
         rising = measured.rising;
-        states = ap (λ (w : Rows). w.states) done_sets.state ∙ given.states;
-        none = ap (λ (w : Rows). w.given) done_sets.state;
+        states = ap (λ (w : Rows). w.rows.states) done_sets.state ∙ given.states;
+        none = ap (λ (w : Rows). w.rows.given) done_sets.state;
         fits = omega (arith, whole, turned-len);
       }
 
@@ -207,11 +209,11 @@ module _ (M : Kripke) (before : List ℕ) (len n : ℕ) (measured : Measured M (
           let full : take size (rows_of M) ≡ rows_of M = take_all size (rows_of M) (omega (arith, length_rows M)) in
           let held = all-rows.holds labels (turn second labels (given.holds base)) in
           let two : second ≡ placed before 0 (code n ++ codes (bits_of labels)) =
-          placed_then before first second (code n) (codes (bits_of labels)) 0 begun.len (omega arith) done.text (begun-len ∙ sym (zero-add _)) given.text in
-          let joint : turned.len ≡ 0 + length (code n ++ codes (bits_of labels)) =
-          ap (λ (w : Rows). w.len) done_sets.state ∙ (given.long ∙ (ap (λ k. k + length (codes (bits_of labels))) begun-len ∙ (sym (length-append (code n) (codes (bits_of labels))) ∙ sym (zero-add _)))) in
+          placed_then before first second (code n) (codes (bits_of labels)) 0 begun.sets.len (omega arith) done.text (begun-len ∙ sym (zero-add _)) given.text in
+          let joint : turned.rows.len ≡ 0 + length (code n ++ codes (bits_of labels)) =
+          ap (λ (w : Rows). w.rows.len) done_sets.state ∙ (given.long ∙ (ap (λ k. k + length (codes (bits_of labels))) begun-len ∙ (sym (length-append (code n) (codes (bits_of labels))) ∙ sym (zero-add _)))) in
           let three : third ≡ placed before 0 ((code n ++ codes (bits_of labels)) ++ rows_code (take size (rows_of M))) =
-          placed_then before second third (code n ++ codes (bits_of labels)) (rows_code (take size (rows_of M))) 0 turned.len (omega arith) two joint all-rows.text in
+          placed_then before second third (code n ++ codes (bits_of labels)) (rows_code (take size (rows_of M))) 0 turned.rows.len (omega arith) two joint all-rows.text in
           let file : (code n ++ codes (bits_of labels)) ++ rows_code (take size (rows_of M)) ≡ file_of labels (rows_of M) =
           ap (λ m. (code m ++ codes (bits_of labels)) ++ rows_code (take size (rows_of M))) (is_size ∙ sym given.are.many)
           ∙ (ap (λ rs. (code (length labels) ++ codes (bits_of labels)) ++ rows_code rs) full ∙ sym (file_parts labels (rows_of M))) in

@@ -11,7 +11,9 @@ use Rattle.codec.proofs.Places.{length-placed, take-placed}
 use Rattle.modelfile.specs.Files.{bits_of, file_of, numbers, RisingRow, Wide}
 use Rattle.modelfile.proofs.Walking.{codes_push, numbers_push}
 use Rattle.writing.specs.Appends.{HasSpace}
-use Rattle.writing.specs.Writings.{Sets, Rows, SetsHold, RowsHold, Filed, Begun, SetDone, Turned, RowDone}
+use Rattle.writing.specs.Writings.{SetsHold, RowsHold, Filed, Begun, SetDone, Turned, RowDone}
+use Rattle.writing.specs.declared.protocol.Rows.{Rows}
+use Rattle.writing.specs.declared.protocol.Sets.{Sets}
 
 -- a piece behind what the buffer begins with
 module _ (before after piece front : List ℕ) (len : ℕ) (space : HasSpace before len piece) (text : after ≡ placed before len piece) where
@@ -39,8 +41,8 @@ begun_holds states before after is done =
 pub set_holds : (was is : Sets) (facts : Facts) (before after : List ℕ) → Wide facts → SetDone was facts before after is → (labels : List Facts) → SetsHold before was labels → SetsHold after is (labels ++ (facts ∷ []))
 set_holds was is facts before after wide done labels holds =
     let space = done.space in
-    let same = same_length before after (code facts.bits) [] was.len space done.text in
-    let on = front_on before after (code facts.bits) (codes (was.states ∷ bits_of labels)) was.len space done.text holds.text in
+    let same = same_length before after (code facts.bits) [] was.sets.len space done.text in
+    let on = front_on before after (code facts.bits) (codes (was.sets.states ∷ bits_of labels)) was.sets.len space done.text holds.text in
     let long = length_push labels facts in
     let count = holds.count in
     let more = done.more in
@@ -51,7 +53,7 @@ set_holds was is facts before after wide done labels holds =
       wide = All-push Wide labels facts holds.wide wide;
       inside = omega (arith, space.0);
       short = space.1;
-      text = on ∙ (codes_push (was.states ∷ bits_of labels) facts.bits ∙ ap (λ ns. codes (was.states ∷ ns)) (sym (map_push (λ (x : Facts). x.bits) labels facts)));
+      text = on ∙ (codes_push (was.sets.states ∷ bits_of labels) facts.bits ∙ ap (λ ns. codes (was.sets.states ∷ ns)) (sym (map_push (λ (x : Facts). x.bits) labels facts)));
     })
 
 pub turned_holds : (was : Sets) (is : Rows) → Turned was is → (buffer : List ℕ) (labels : List Facts) → SetsHold buffer was labels → RowsHold buffer is labels []
@@ -59,7 +61,7 @@ turned_holds was is done buffer labels holds =
     let full = done.full in
     let count = holds.count in
     let few = holds.few in
-    let all : length labels ≡ was.states = omega arith in
+    let all : length labels ≡ was.sets.states = omega arith in
     subst (λ w. RowsHold buffer w labels []) (sym done.state) (record {
       sized = holds.sized;
       all = all;
@@ -75,8 +77,8 @@ turned_holds was is done buffer labels holds =
 pub row_holds : (was is : Rows) (row before after : List ℕ) → RowDone was row before after is → (labels : List Facts) (rows : List (List ℕ)) → RowsHold before was labels rows → RowsHold after is labels (rows ++ (row ∷ []))
 row_holds was is row before after done labels rows holds =
     let space = done.space in
-    let same = same_length before after (codes (counted row)) [] was.len space done.text in
-    let on = front_on before after (codes (counted row)) (file_of labels rows) was.len space done.text holds.text in
+    let same = same_length before after (codes (counted row)) [] was.rows.len space done.text in
+    let on = front_on before after (codes (counted row)) (file_of labels rows) was.rows.len space done.text holds.text in
     let long = length_push rows row in
     let count = holds.count in
     let more = done.more in
@@ -86,13 +88,13 @@ row_holds was is row before after done labels rows holds =
       count = omega arith;
       few = omega arith;
       wide = holds.wide;
-      rising = All-push (RisingRow was.states) rows row holds.rising done.rising;
+      rising = All-push (RisingRow was.rows.states) rows row holds.rising done.rising;
       inside = omega (arith, space.0);
       short = space.1;
       text = on ∙ (sym (joined-append code (numbers labels rows) (counted row)) ∙ ap codes (numbers_push labels rows row));
     })
 
-pub closed_files : (was : Rows) (len : ℕ) → len ≡ was.len → was.states ≤ was.given → (buffer : List ℕ) (labels : List Facts) (rows : List (List ℕ)) → RowsHold buffer was labels rows → Filed buffer len labels rows
+pub closed_files : (was : Rows) (len : ℕ) → len ≡ was.rows.len → was.rows.states ≤ was.rows.given → (buffer : List ℕ) (labels : List Facts) (rows : List (List ℕ)) → RowsHold buffer was labels rows → Filed buffer len labels rows
 closed_files was len e full buffer labels rows holds =
     let count = holds.count in
     let few = holds.few in

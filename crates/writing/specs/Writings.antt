@@ -7,18 +7,10 @@ use Rattle.codec.specs.Pieces.{placed}
 use Rattle.modelfile.specs.Files.{bits_of, file_of, longest, Sized, RisingRow, Wide, Valid}
 use Rattle.writing.specs.Appends.{HasSpace}
 use Rattle.writing.specs.declared.protocol.Refused.{Refused}
-use Rattle.writing.specs.declared.protocol.TakesRows.{TakesRows}
-use Rattle.writing.specs.declared.protocol.TakesSets.{TakesSets}
+use Rattle.writing.specs.declared.protocol.Rows.{Rows}
+use Rattle.writing.specs.declared.protocol.Sets.{Sets}
 use Rattle.writing.specs.declared.protocol.WriteFault.{WriteFault}
 use Rattle.writing.specs.declared.protocol.WriteFault.TheVariants.{BadSize, NoSpace, AllGiven, Missing, BadRow}
-use Rattle.writing.specs.declared.protocol.Writing.{Writing}
-
--- what a writing takes
-abbrev pub Sets : Type 0
-Sets = Writing TakesSets
-
-abbrev pub Rows : Type 0
-Rows = Writing TakesRows
 
 -- the number of each refusal
 abbrev pub write_cause : WriteFault → ℕ
@@ -30,25 +22,25 @@ write_cause BadRow = 45
 
 -- the buffer begins with N and the labels given so far
 pub record SetsHold (buffer : List ℕ) (w : Sets) (labels : List Facts) : Type 0 where
-  pub sized : Sized w.states
-  pub count : w.given ≡ length labels
-  pub few : w.given ≤ w.states
+  pub sized : Sized w.sets.states
+  pub count : w.sets.given ≡ length labels
+  pub few : w.sets.given ≤ w.sets.states
   pub wide : AllByRecursion Wide labels
-  pub inside : w.len ≤ length buffer
-  pub short : w.len ≤ longest
-  pub text : take w.len buffer ≡ codes (w.states ∷ bits_of labels)
+  pub inside : w.sets.len ≤ length buffer
+  pub short : w.sets.len ≤ longest
+  pub text : take w.sets.len buffer ≡ codes (w.sets.states ∷ bits_of labels)
 
 -- the buffer begins with the file of all labels and of the rows given so far
 pub record RowsHold (buffer : List ℕ) (w : Rows) (labels : List Facts) (rows : List (List ℕ)) : Type 0 where
-  pub sized : Sized w.states
-  pub all : length labels ≡ w.states
-  pub count : w.given ≡ length rows
-  pub few : w.given ≤ w.states
+  pub sized : Sized w.rows.states
+  pub all : length labels ≡ w.rows.states
+  pub count : w.rows.given ≡ length rows
+  pub few : w.rows.given ≤ w.rows.states
   pub wide : AllByRecursion Wide labels
-  pub rising : AllByRecursion (RisingRow w.states) rows
-  pub inside : w.len ≤ length buffer
-  pub short : w.len ≤ longest
-  pub text : take w.len buffer ≡ file_of labels rows
+  pub rising : AllByRecursion (RisingRow w.rows.states) rows
+  pub inside : w.rows.len ≤ length buffer
+  pub short : w.rows.len ≤ longest
+  pub text : take w.rows.len buffer ≡ file_of labels rows
 
 -- the first bytes of the buffer are the file of exactly these labels and rows
 pub record Filed (buffer : List ℕ) (len : ℕ) (labels : List Facts) (rows : List (List ℕ)) : Type 0 where
@@ -61,7 +53,7 @@ pub record Filed (buffer : List ℕ) (len : ℕ) (labels : List Facts) (rows : L
 pub record Begun (states : ℕ) (before after : List ℕ) (is : Sets) : Type 0 where
   pub sized : Sized states
   pub space : HasSpace before 0 (code states)
-  pub state : is ≡ record { states = states; given = 0; len = length (code states); part = record {} }
+  pub state : is ≡ record { sets = record { states = states; given = 0; len = length (code states) } }
   pub text : after ≡ placed before 0 (code states)
 
 abbrev pub BeginFault : ℕ → List ℕ → WriteFault → Type 0
@@ -73,37 +65,37 @@ BeginFault states before BadRow = ⊥
 
 -- set: one label more is written behind what there was
 pub record SetDone (was : Sets) (facts : Facts) (before after : List ℕ) (is : Sets) : Type 0 where
-  pub more : was.given < was.states
-  pub space : HasSpace before was.len (code facts.bits)
-  pub state : is ≡ record was { given = was.given + 1; len = was.len + length (code facts.bits) }
-  pub text : after ≡ placed before was.len (code facts.bits)
+  pub more : was.sets.given < was.sets.states
+  pub space : HasSpace before was.sets.len (code facts.bits)
+  pub state : is ≡ record { sets = record was.sets { given = was.sets.given + 1; len = was.sets.len + length (code facts.bits) } }
+  pub text : after ≡ placed before was.sets.len (code facts.bits)
 
 abbrev pub SetFault : Sets → Facts → List ℕ → WriteFault → Type 0
 SetFault was facts before BadSize = ⊥
-SetFault was facts before NoSpace = (was.given < was.states) × (HasSpace before was.len (code facts.bits) → ⊥)
-SetFault was facts before AllGiven = was.states ≤ was.given
+SetFault was facts before NoSpace = (was.sets.given < was.sets.states) × (HasSpace before was.sets.len (code facts.bits) → ⊥)
+SetFault was facts before AllGiven = was.sets.states ≤ was.sets.given
 SetFault was facts before Missing = ⊥
 SetFault was facts before BadRow = ⊥
 
 -- rows: the sets are complete, and nothing is written
 pub record Turned (was : Sets) (is : Rows) : Type 0 where
-  pub full : was.states ≤ was.given
-  pub state : is ≡ record { states = was.states; given = 0; len = was.len; part = record {} }
+  pub full : was.sets.states ≤ was.sets.given
+  pub state : is ≡ record { rows = record was.sets { given = 0 } }
 
 -- row: the degree and the targets are written behind what there was
 pub record RowDone (was : Rows) (row : List ℕ) (before after : List ℕ) (is : Rows) : Type 0 where
-  pub more : was.given < was.states
-  pub rising : RisingRow was.states row
-  pub space : HasSpace before was.len (codes (counted row))
-  pub state : is ≡ record was { given = was.given + 1; len = was.len + length (codes (counted row)) }
-  pub text : after ≡ placed before was.len (codes (counted row))
+  pub more : was.rows.given < was.rows.states
+  pub rising : RisingRow was.rows.states row
+  pub space : HasSpace before was.rows.len (codes (counted row))
+  pub state : is ≡ record { rows = record was.rows { given = was.rows.given + 1; len = was.rows.len + length (codes (counted row)) } }
+  pub text : after ≡ placed before was.rows.len (codes (counted row))
 
 abbrev pub RowFault : Rows → List ℕ → List ℕ → WriteFault → Type 0
 RowFault was row before BadSize = ⊥
-RowFault was row before NoSpace = (was.given < was.states) × RisingRow was.states row × (HasSpace before was.len (codes (counted row)) → ⊥)
-RowFault was row before AllGiven = was.states ≤ was.given
+RowFault was row before NoSpace = (was.rows.given < was.rows.states) × RisingRow was.rows.states row × (HasSpace before was.rows.len (codes (counted row)) → ⊥)
+RowFault was row before AllGiven = was.rows.states ≤ was.rows.given
 RowFault was row before Missing = ⊥
-RowFault was row before BadRow = (was.given < was.states) × (RisingRow was.states row → ⊥)
+RowFault was row before BadRow = (was.rows.given < was.rows.states) × (RisingRow was.rows.states row → ⊥)
 
 -- a refusal hands the writing back as it was, and says why
 pub record HandsBack {W : Type 0} (was : W) (why : WriteFault → Type 0) (e : Refused W) : Type 0 where

@@ -8,7 +8,6 @@ ghost use Rattle.writing.specs.Writings.{write_cause, SetsHold, RowsHold, Filed,
 use crate::append::{append_number, append_row};
 use kripke::LIMIT;
 use models::facts::Facts;
-use std::marker::PhantomData;
 
 /// Why a call of a writing is refused.
 #[derive(Clone, Copy, Debug, PartialEq, Eq)]
@@ -47,6 +46,14 @@ pub struct Refused<W> {
     pub writing: W,
 }
 
+impl<W> Refused<W> {
+    fn new(writing: W, fault: WriteFault) -> Refused<W>
+        ensures { result ≡ record { fault = fault; writing = writing } }
+    {
+        Refused { fault, writing }
+    }
+}
+
 // A caller that needs no more than the fault lets the writing go by a `?`.
 impl<W: Drop> From<Refused<W>> for WriteFault {
     ghost from_gives = { λ e r. r ≡ e.fault };
@@ -56,26 +63,46 @@ impl<W: Drop> From<Refused<W>> for WriteFault {
     }
 }
 
-/// Says of a writing that it takes the sets of facts.
+// How far a writing is: N, for how many states what it takes is given, and how many bytes are written.
 #[derive(Clone, Copy, Debug)]
-pub struct TakesSets;
-
-/// Says of a writing that it takes the rows.
-#[derive(Clone, Copy, Debug)]
-pub struct TakesRows;
-
-/// A writing: N, how many of what it takes are given, and how many bytes are written.
-#[derive(Debug, Drop)]
-pub struct Writing<P> {
+struct Progress {
     states: u16,
     given: u16,
     len: usize,
-    part: PhantomData<P>,
 }
 
-pub type Sets = Writing<TakesSets>;
+impl Progress {
+    // Whether all is given.
+    fn is_full(self) -> bool
+        ensures { MatchBool result (self.states ≤ self.given) (self.given < self.states) }
+    {
+        self.given >= self.states
+    }
 
-pub type Rows = Writing<TakesRows>;
+    // The same with one state more, up to `len` bytes.
+    fn with_next(self, len: usize) -> Progress
+        requires { self.given < self.states }
+        ensures { result ≡ record self { given = self.given + 1; len = len } }
+    {
+        Progress {
+            given: self.given + 1,
+            len,
+            ..self
+        }
+    }
+}
+
+/// A writing that takes the sets of facts.
+#[derive(Debug, Drop)]
+pub struct Sets {
+    sets: Progress,
+}
+
+/// A writing that takes the rows.
+#[derive(Debug, Drop)]
+pub struct Rows {
+    rows: Progress,
+}
 
 /// Begins a writing: writes N at the buffer's front.
 pub fn begin(buffer: &mut [u8], states: u16) -> Result<Sets, WriteFault>
@@ -86,74 +113,43 @@ pub fn begin(buffer: &mut [u8], states: u16) -> Result<Sets, WriteFault>
         return Err(WriteFault::BadSize);
     }
     let len = append_number(states as u64, buffer, 0).ok_or(WriteFault::NoSpace)?;
-    Ok(Writing {
+    let sets = Progress {
         states,
         given: 0,
         len,
-        part: PhantomData,
-    })
+    };
+    Ok(Sets { sets })
 }
 
-impl<P> Writing<P> {
-    // Whether what the writing takes is given for each state.
-    fn is_full(&self) -> bool
-        ensures { MatchBool result (self.now.states ≤ self.now.given) (self.now.given < self.now.states) }
-    {
-        self.given >= self.states
-    }
-
-    // The writing with what it takes given for one state more, and `len` bytes written.
-    fn with_next(self, len: usize) -> Writing<P>
-        requires { self.given < self.states }
-        ensures { result ≡ record self { given = self.given + 1; len = len } }
-    {
-        Writing {
-            given: self.given + 1,
-            len,
-            ..self
-        }
-    }
-
-    // The refusal that hands the writing back.
-    fn refused(self, fault: WriteFault) -> Refused<Writing<P>>
-        ensures { result ≡ record { fault = fault; writing = self } }
-    {
-        Refused {
-            fault,
-            writing: self,
-        }
-    }
-}
-
-impl Writing<TakesSets> {
+impl Sets {
     /// Gives the facts of the next state.
     pub fn set(self, buffer: &mut [u8], facts: Facts) -> Result<Sets, Refused<Sets>>
         ensures answer { MatchResult result (SetDone self facts buffer.old buffer.new) (λ e. HandsBack self (SetFault self facts buffer.old) e × (buffer.new ≡ buffer.old)) }
         ensures holds { IfOk result (λ s. ((labels : List Label) → SetsHold buffer.old self labels → SetsHold buffer.new s (labels ++ (facts ∷ [])))) }
     {
-        if self.is_full() {
-            return Err(self.refused(WriteFault::AllGiven));
+        if self.sets.is_full() {
+            return Err(Refused::new(self, WriteFault::AllGiven));
         }
-        let Some(len) = append_number(facts.bits, buffer, self.len) else {
-            return Err(self.refused(WriteFault::NoSpace));
+        let Some(len) = append_number(facts.bits, buffer, self.sets.len) else {
+            return Err(Refused::new(self, WriteFault::NoSpace));
         };
-        Ok(self.with_next(len))
+        let sets = self.sets.with_next(len);
+        Ok(Sets { sets })
     }
 
     /// Ends the sets: the writing then takes rows.
     pub fn rows(self) -> Result<Rows, Refused<Sets>>
-        ensures answer { MatchResult result (Turned self) (HandsBack self (Lacks self.given self.states)) }
+        ensures answer { MatchResult result (Turned self) (HandsBack self (Lacks self.sets.given self.sets.states)) }
         ensures holds { IfOk result (λ w. ((buffer : List ℕ) (labels : List Label) → SetsHold buffer self labels → RowsHold buffer w labels [])) }
     {
-        if !self.is_full() {
-            return Err(self.refused(WriteFault::Missing));
+        if !self.sets.is_full() {
+            return Err(Refused::new(self, WriteFault::Missing));
         }
-        Ok(Writing {
-            states: self.states,
+        let rows = Progress {
             given: 0,
-            len: self.len,
-            part: PhantomData,
-        })
+            ..self.sets
+        };
+        Ok(Rows { rows })
     }
 }
 
@@ -164,32 +160,33 @@ pub(crate) fn is_rising(targets: &[u16], states: u16) -> bool
     targets.last().is_none_or(|last| *last < states) && targets.is_sorted_by(|a, b| a < b)
 }
 
-impl Writing<TakesRows> {
+impl Rows {
     /// Gives the targets of the next state.
     pub fn row(self, buffer: &mut [u8], targets: &[u16]) -> Result<Rows, Refused<Rows>>
         ensures answer { MatchResult result (RowDone self targets.now buffer.old buffer.new) (λ e. HandsBack self (RowFault self targets.now buffer.old) e × (buffer.new ≡ buffer.old)) }
         ensures holds { IfOk result (λ w. ((labels : List Label) (rows : List (List ℕ)) → RowsHold buffer.old self labels rows → RowsHold buffer.new w labels (rows ++ (targets.now ∷ [])))) }
     {
-        if self.is_full() {
-            return Err(self.refused(WriteFault::AllGiven));
+        if self.rows.is_full() {
+            return Err(Refused::new(self, WriteFault::AllGiven));
         }
-        if !is_rising(targets, self.states) {
-            return Err(self.refused(WriteFault::BadRow));
+        if !is_rising(targets, self.rows.states) {
+            return Err(Refused::new(self, WriteFault::BadRow));
         }
-        let Some(len) = append_row(targets, buffer, self.len) else {
-            return Err(self.refused(WriteFault::NoSpace));
+        let Some(len) = append_row(targets, buffer, self.rows.len) else {
+            return Err(Refused::new(self, WriteFault::NoSpace));
         };
-        Ok(self.with_next(len))
+        let rows = self.rows.with_next(len);
+        Ok(Rows { rows })
     }
 
     /// Ends the writing, and answers the file's length.
     pub fn close(self) -> Result<usize, Refused<Rows>>
-        ensures answer { MatchResult result (λ len. (len ≡ self.len) × (self.states ≤ self.given)) (HandsBack self (Lacks self.given self.states)) }
+        ensures answer { MatchResult result (λ len. (len ≡ self.rows.len) × (self.rows.states ≤ self.rows.given)) (HandsBack self (Lacks self.rows.given self.rows.states)) }
         ensures holds { IfOk result (λ len. ((buffer : List ℕ) (labels : List Label) (rows : List (List ℕ)) → RowsHold buffer self labels rows → Filed buffer len labels rows)) }
     {
-        if !self.is_full() {
-            return Err(self.refused(WriteFault::Missing));
+        if !self.rows.is_full() {
+            return Err(Refused::new(self, WriteFault::Missing));
         }
-        Ok(self.len)
+        Ok(self.rows.len)
     }
 }

@@ -10,6 +10,6 @@ returns c =
     let put = rw got at c.append_number.ensures in
     let sized : Sized c.args.states = (omega arith, omega arith) in
     let end = put.1 ∙ zero-add _ in
-    let done : Begun c.args.states c.args.buffer.now c.append_number.new.buffer (record { states = c.args.states; given = 0; len = c.in_ok-len.len; part = record {} }) =
-    record { sized = sized; space = put.0; state = ap (λ k. record { states = c.args.states; given = 0; len = k; part = record {} }) end; text = put.2 } in
+    let done : Begun c.args.states c.args.buffer.now c.append_number.new.buffer (record { sets = record { states = c.args.states; given = 0; len = c.in_ok-len.len } }) =
+    record { sized = sized; space = put.0; state = ap (λ k. record { sets = record { states = c.args.states; given = 0; len = k } }) end; text = put.2 } in
     record { answer = done; holds = begun_holds _ _ _ _ done }
