@@ -5,23 +5,22 @@ use Rattle.sets.specs.declared.Set.{Set}
 use Rattle.sets.specs.Sets.{In, none, Splits}
 use Rattle.kripke.specs.Paths.{Trail}
 use Rattle.kripke.proofs.Roads.{Steps, Via, via_road, road_via}
-use Rattle.merger.specs.Grids.{at, set_at, Groups, Several}
+use Rattle.merger.specs.Grids.{at, set_at, Groups}
 use Rattle.merger.specs.Starts.{Inner}
 use Rattle.merger.proofs.Blank.{after_set}
 
 -- one row of the inner moves
-pub inner-row : (moves members : List Set) (class : List ℕ) (count k : ℕ) (both x : Set) → Groups members class count → k < count → count ≤ 128 →
-    ((j : ℕ) → In both j ↔ (In (set_at moves k) j × In (set_at members (at class k)) j)) →
-    ((j : ℕ) → In x j ↔ (In both j ⊎ ((j ≡ k) × (k < 128)))) →
+pub inner-row : (moves members : List Set) (class : List ℕ) (count k : ℕ) (x : Set) → Groups members class count → k < count → count ≤ 128 →
+    ((j : ℕ) → In x j ↔ ((In (set_at moves k) j × In (set_at members (at class k)) j) ⊎ ((j ≡ k) × (k < 128)))) →
     (l : ℕ) → In x l ↔ Inner moves class count k l
-inner-row moves members class count k both x G h few meet with' l = (
+inner-row moves members class count k x G h few row l = (
   (λ o. ⊎_elim
-      (λ b. let p = (meet l).0 b in let g = (G.each (at class k) l).0 p.1 in (h, g.0, sym g.1, inr p.0))
+      (λ p. let g = (G.each (at class k) l).0 p.1 in (h, g.0, sym g.1, inr p.0))
       (λ e. (h, subst (λ i. i < count) (sym e.0) h, ap (at class) (sym e.0), inl e.0))
-      ((with' l).0 o)),
-  (λ p. (with' l).1 (elim p.3 [
+      ((row l).0 o)),
+  (λ p. (row l).1 (elim p.3 [
     | inl e ↦ inr (e, omega arith)
-    | inr m ↦ inl ((meet l).1 (m, (G.each (at class k) l).1 (p.1, sym p.2)))
+    | inr m ↦ inl (m, (G.each (at class k) l).1 (p.1, sym p.2))
   ])),
 )
 
@@ -32,12 +31,6 @@ pub record Passed (reach reach' : List Set) (mid : ℕ) (group left : Set) : Typ
       (In (set_at reach k) l ⊎ (In group k × (In left k → ⊥) × In (set_at reach k) mid × In (set_at reach mid) l))
 
 module _ (reach : List Set) (mid : ℕ) (group : Set) where
-  pub passed_none : Passed reach reach mid group group
-  passed_none = record {
-    inside = λ k h. h;
-    each = λ k l. (inl, ⊎_elim (λ o. o) (λ p. absurd (p.1 p.0)));
-  }
-
   module _ (reach' : List Set) (left : Set) (k : ℕ) (rest : Set) (P : Passed reach reach' mid group left) (S : Splits left k rest) where
     -- what is left is as it was
     was : (l : ℕ) → In (set_at reach' k) l → In (set_at reach k) l
@@ -72,25 +65,9 @@ module _ (reach : List Set) (mid : ℕ) (group : Set) where
           (cases_eq j k);
     }
 
-  -- what a pass leaves
-  abbrev pub Through : List Set → Type 0
-  Through reach' = (k l : ℕ) → In (set_at reach' k) l ↔ (In (set_at reach k) l ⊎ (In group k × In (set_at reach k) mid × In (set_at reach mid) l))
-
-  pub passed_all : (reach' : List Set) (left : Set) → ((k : ℕ) → In left k → ⊥) → Passed reach reach' mid group left → Through reach'
-  passed_all reach' left empty P k l = (
-    (λ h. ⊎_elim inl (λ p. inr (p.0, p.2, p.3)) ((P.each k l).0 h)),
-    (λ h. (P.each k l).1 (⊎_elim inl (λ p. inr (p.0, empty k, p.1, p.2)) h)),
-  )
-
-  -- where mid reaches only itself, nothing is to be done
-  pub passed_alone : In (set_at reach mid) mid → (Several (set_at reach mid) → ⊥) → Through reach
-  passed_alone own few k l = (
-    inl,
-    ⊎_elim (λ o. o) (λ p. ⊎_elim
-        (λ e. subst (λ i. In (set_at reach k) i) (sym e) p.1)
-        (λ n. absurd (few (l, mid, p.2, own, n)))
-        (cases_eq l mid)),
-  )
+-- what a pass leaves
+abbrev pub Through : List Set → ℕ → Set → List Set → Type 0
+Through reach mid group reach' = (k l : ℕ) → In (set_at reach' k) l ↔ (In (set_at reach k) l ⊎ (In group k × In (set_at reach k) mid × In (set_at reach mid) l))
 
 module _ (moves : List Set) (class : List ℕ) (count : ℕ) where
   abbrev E : ℕ → ℕ → Type 0

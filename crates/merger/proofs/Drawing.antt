@@ -1,8 +1,8 @@
 -- A reduced model that is filled after the settling round.
 use Rattle.std.proofs.Common.{◌≡◌, ℕ, ◌+◌, ◌<◌, ◌≤◌, true, false, cond, ltb, ◌↔◌, List, [], length, get_or, set, Some, None, slice_get, sym, ap, ◌∙◌, subst, ⊎_elim, arith}
-use Rattle.std.proofs.lemmas.Bool.{cases_eq, cases_lt, cases_Bool, lt-ltb, ltb-true, cond-true, cond-false}
-use Rattle.std.proofs.lemmas.Option.{slice_get_within, get_or_from_slice_get}
-use Rattle.std.proofs.lemmas.List.{get_or_default, get_or-set_same, get_or-set_other, length-set}
+use Rattle.std.proofs.lemmas.Bool.{cases_eq, cases_lt, lt-ltb, le-ltb, cond-true, cond-false}
+use Rattle.std.proofs.lemmas.Option.{slice_get-get_or, slice_get_past}
+use Rattle.std.proofs.lemmas.List.{get_or-set_same, get_or-set_other, length-set}
 use Rattle.sets.specs.declared.Set.{Set}
 use Rattle.sets.specs.Sets.{In, none, members}
 use Rattle.sets.proofs.Members.{members_has, members_in, members_rise}
@@ -25,13 +25,12 @@ use Rattle.merger.proofs.Promising.{settles_stable, tabled_promise}
 use Rattle.merger.proofs.Blank.{no_words}
 use Rattle.sets.proofs.Bits.{none_in}
 
-pub nth-at : (xs : List ℕ) (k t : ℕ) → Some t ≡ slice_get xs k → (k < length xs) × (get_or xs k 0 ≡ t)
-nth-at xs k t e = (slice_get_within xs k t (sym e), get_or_from_slice_get xs k t 0 (sym e))
-
-pub nth-move : (xs : List ℕ) (k t : ℕ) → Some t ≡ slice_get xs k → Some t ≡ move xs k
-nth-move xs k t e =
-    let p = nth-at xs k t e in
-    sym (cond-true (ltb k (length xs)) (Some (get_or xs k nowhere)) None (lt-ltb k (length xs) p.0) ∙ ap Some (get_or_default xs k nowhere 0 p.0 ∙ p.1))
+-- a move is what a row has at its number
+pub move-slice_get : (xs : List ℕ) (k : ℕ) → slice_get xs k ≡ move xs k
+move-slice_get xs k = ⊎_elim
+    (λ l. slice_get-get_or xs k nowhere l ∙ sym (cond-true (ltb k (length xs)) (Some (get_or xs k nowhere)) None (lt-ltb k (length xs) l)))
+    (λ past. slice_get_past xs k past ∙ sym (cond-false (ltb k (length xs)) (Some (get_or xs k nowhere)) None (le-ltb k (length xs) past)))
+    (cases_lt k (length xs))
 
 -- the classes below n are drawn, each from one of its components, and the others are blank
 pub record Sketched (F : Found) (S : Rounds) (rows : List Set) (facts : List ℕ) (moves : List Set) (n : ℕ) : Type 0 where

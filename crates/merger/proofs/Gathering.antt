@@ -1,11 +1,11 @@
 -- What is in the sets of the components that a row marks, gathered along the row; and marks cleared.
-use Rattle.std.proofs.Common.{◌≡◌, ℕ, ◌+◌, ◌<◌, ◌≤◌, min, ◌⊎◌, ◌↔◌, List, [], length, get_or, set, sym, refl, ap, ◌∙◌, subst, inl, inr, ⊎_elim, arith}
+use Rattle.std.proofs.Common.{◌≡◌, ℕ, ◌+◌, ◌<◌, ◌≤◌, min, ◌⊎◌, ◌↔◌, List, [], length, get_or, set, sym, refl, ◌∙◌, subst, inl, inr, ⊎_elim, arith}
 use Rattle.std.proofs.lemmas.Bool.{cases_eq, cases_lt}
 use Rattle.std.proofs.lemmas.List.{get_or-set_same, get_or-set_other}
 use Rattle.sets.specs.declared.Set.{Set}
-use Rattle.sets.specs.Sets.{In, none, Splits}
+use Rattle.sets.specs.Sets.{In, none}
 use Rattle.sets.proofs.Bits.{none_in}
-use Rattle.merger.specs.Grids.{at, set_at, On, Kept}
+use Rattle.merger.specs.Grids.{at, set_at, On}
 
 -- what holds of eight numbers from f on
 pub eight : (P : ℕ → Type 0) (f : ℕ) → P f → P (f + 1) → P (f + 2) → P (f + 3) → P (f + 4) → P (f + 5) → P (f + 6) → P (f + 7) →
@@ -95,31 +95,6 @@ module _ (row : List ℕ) (sets : List Set) (count : ℕ) where
 -- the marks of what is in gone and no more in left are cleared
 abbrev pub Cleared : List ℕ → List ℕ → Set → Set → Type 0
 Cleared row row' gone left = (l : ℕ) → (at row' l ≡ 1) ↔ ((at row l ≡ 1) × (In gone l → In left l))
-
-module _ (row : List ℕ) (gone : Set) where
-  pub cleared_none : Cleared row row gone gone
-  cleared_none l = ((λ e. (e, λ h. h)), (λ p. p.0))
-
-  pub cleared_more : (row' : List ℕ) (left : Set) (k : ℕ) (rest : Set) → ((l : ℕ) → In left l → In gone l) → k < length row' →
-      Cleared row row' gone left → Splits left k rest → Cleared row (set row' k 0) gone rest
-  cleared_more row' left k rest inside room C S l = ⊎_elim
-      (λ same.
-      let zero_there : at (set row' k 0) l ≡ 0 = ap (at (set row' k 0)) same ∙ get_or-set_same row' k 0 0 room in (
-        (λ e. absurd (omega arith)),
-        (λ p. absurd (((S.others l).0 (p.1 (inside l (subst (λ i. In left i) (sym same) S.has)))).1 same)),
-      ))
-      (λ other.
-      let as_was : at (set row' k 0) l ≡ at row' l = get_or-set_other row' k l 0 0 other in (
-        (λ e. let p = (C l).0 (sym as_was ∙ e) in (p.0, λ h. (S.others l).1 (p.1 h, other))),
-        (λ p. as_was ∙ (C l).1 (p.0, λ h. ((S.others l).0 (p.1 h)).0)),
-      ))
-      (cases_eq l k)
-
-  pub cleared_all : (row' : List ℕ) (left : Set) → ((l : ℕ) → In left l → ⊥) → Cleared row row' gone left → Kept row row' gone
-  cleared_all row' left empty C l = (
-    (λ e. let p = (C l).0 e in (p.0, λ h. empty l (p.1 h))),
-    (λ p. (C l).1 (p.0, λ h. absurd (p.1 h))),
-  )
 
 -- the rows below n have the marks of before that Stays lets be, and the others are as they were
 pub record Cut (reach reach' : List (List ℕ)) (Stays : ℕ → ℕ → Type 0) (n : ℕ) : Type 0 where

@@ -1,7 +1,6 @@
 -- The classes one move ahead of a component.
-use Rattle.std.proofs.Common.{◌≡◌, ℕ, ◌+◌, ◌<◌, Bool, true, ◌⊎◌, ◌↔◌, List, length, set, Decides, sym, refl, ap, ◌∙◌, subst, inl, inr, ⊎_elim, arith}
+use Rattle.std.proofs.Common.{◌≡◌, ℕ, ◌+◌, ◌<◌, Bool, true, ◌⊎◌, ◌↔◌, List, Decides, sym, refl, ap, ◌∙◌, subst, inl, inr, ⊎_elim, arith}
 use Rattle.std.proofs.lemmas.Bool.{cases_eq}
-use Rattle.std.proofs.lemmas.List.{get_or-set_same, get_or-set_other}
 use Rattle.sets.specs.declared.Set.{Set}
 use Rattle.sets.specs.Sets.{In, none, Splits}
 use Rattle.sets.proofs.Bits.{in_dec, none_in}
@@ -68,24 +67,6 @@ module _ (members : List Set) (class : List ℕ) (count from : ℕ) (G : Groups 
       | inr same ↦ inr (sym p.3 ∙ ap (at class) same, G.low from low, own.1 (subst (λ i. In moves i) same p.1))
     ])),
   )
-
--- of what is wanted, all that is not left stands in the table as P has it
-abbrev pub Along : (ℕ → Set → Type 0) → Set → Set → List Set → Type 0
-Along P wanted left table = (k : ℕ) → In wanted k → In left k ⊎ P k (set_at table k)
-
-module _ (P : ℕ → Set → Type 0) (wanted : Set) where
-  pub along_more : (left : Set) (k : ℕ) (rest x : Set) (table : List Set) → k < length table → Along P wanted left table → Splits left k rest → P k x →
-      Along P wanted rest (set table k x)
-  along_more left k rest x table room A S p j h = ⊎_elim
-      (λ same. inr (subst (λ i. P i (set_at (set table k x) i)) (sym same) (subst (P k) (sym (get_or-set_same table k x none room)) p)))
-      (λ other. ⊎_elim
-      (λ in_left. inl ((S.others j).1 (in_left, other)))
-      (λ done. inr (subst (P j) (sym (get_or-set_other table k j x none other)) done))
-      (A j h))
-      (cases_eq j k)
-
-  pub along_all : (left : Set) (table : List Set) → ((l : ℕ) → In left l → ⊥) → Along P wanted left table → (k : ℕ) → In wanted k → P k (set_at table k)
-  along_all left table empty A k h = ⊎_elim (λ in_left. absurd (empty k in_left)) (λ done. done) (A k h)
 
 -- what is ahead of each component, seen from what k reaches
 pub outlook_from : (reach : List (List ℕ)) (moves ahead : List Set) (class : List ℕ) (count : ℕ) (wanted x : Set) (k : ℕ) → In wanted k →

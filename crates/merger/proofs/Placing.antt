@@ -1,13 +1,27 @@
 -- One component more is given its new class.
-use Rattle.std.proofs.Common.{◌≡◌, ℕ, ◌+◌, ◌<◌, ◌≤◌, ◌⊎◌, ◌↔◌, List, length, set, sym, refl, ap, ◌∙◌, subst, inl, inr, ⊎_elim, arith}
-use Rattle.std.proofs.lemmas.Bool.{cases_eq}
+use Rattle.std.proofs.Common.{◌≡◌, ℕ, ◌+◌, ◌^◌, ◌<◌, ◌≤◌, ◌⊎◌, ◌↔◌, List, length, set, Option, Some, None, sym, refl, ap, ◌∙◌, subst, inl, inr, ⊎_elim, arith}
+use Rattle.std.specs.Prelude.{MatchOption}
+use Rattle.std.specs.List.{AllWithin, HoldsAt}
+use Rattle.std.proofs.lemmas.Bool.{cases_eq, cases_lt}
 use Rattle.std.proofs.lemmas.List.{get_or-set_same, get_or-set_other}
 use Rattle.sets.specs.declared.Set.{Set}
-use Rattle.sets.specs.Sets.{In, none}
-use Rattle.sets.proofs.Bits.{none_in}
+use Rattle.sets.specs.Sets.{In, none, members}
+use Rattle.sets.proofs.Bits.{none_in, high_out}
+use Rattle.sets.proofs.Members.{members_has, members_in}
 use Rattle.kripke.proofs.Numbering.{number-none, number_old, number_new}
 use Rattle.merger.specs.Grids.{at, set_at, Same, Like}
 use Rattle.merger.specs.Placing.{Placed}
+
+-- what `find` gives, told of a set's members
+pub found_member : (x : Set) → x.bits < 2 ^ 128 → (r : Option ℕ) (Yes No : ℕ → Type 0) →
+    MatchOption r (AllWithin No (members x) 0 (length (members x)))
+    (λ j. Yes j × (i : ℕ) × (i < length (members x)) × HoldsAt (λ y. y ≡ j) (members x) i × AllWithin No (members x) 0 i) →
+    MatchOption r ((j : ℕ) → In x j → No j) (λ j. In x j × Yes j)
+found_member x fits None Yes No all = λ j h.
+    let small : j < 128 = ⊎_elim (λ l. l) (λ past. absurd (high_out 128 x.bits j fits past h)) (cases_lt j 128) in
+    let p = members_has x j 0 small h in
+    subst No p.2 (all p.0 0 (omega arith) p.1)
+found_member x fits (Some j) Yes No p = (subst (λ i. In x i) (p.3 0) (members_in x p.1 0 p.2), p.0)
 
 module _ (rows : List Set) (class : List ℕ) where
   pub like_own : (i : ℕ) → Like rows class i i

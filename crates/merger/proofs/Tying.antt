@@ -2,7 +2,7 @@
 use Rattle.std.proofs.Common.{◌≡◌, ℕ, ◌+◌, ◌<◌, ◌⊎◌, ◌↔◌, List, length, get_or, set, sym, refl, ap, ◌∙◌, subst, inl, inr, ⊎_elim, arith}
 use Rattle.std.proofs.lemmas.Bool.{cases_eq}
 use Rattle.sets.specs.declared.Set.{Set}
-use Rattle.sets.specs.Sets.{In, none, Splits}
+use Rattle.sets.specs.Sets.{In, none}
 use Rattle.sets.proofs.Bits.{none_in}
 use Rattle.merger.specs.Grids.{at, set_at}
 use Rattle.merger.specs.Starts.{Tied}
@@ -50,20 +50,6 @@ module _ (rows : List Set) (component : List ℕ) (members targets : List Set) (
               (cases_eq p.0 n)),
         )) k;
   }
-
--- the marks of what is in set and no more in left
-abbrev pub Marked : List ℕ → Set → Set → Type 0
-Marked row set left = (l : ℕ) → (at row l ≡ 1) ↔ (In set l × (In left l → ⊥))
-
-pub marked_more : (row : List ℕ) (all left : Set) (k : ℕ) (rest : Set) → k < length row → ((l : ℕ) → In left l → In all l) → Marked row all left → Splits left k rest →
-    Marked (set row k 1) all rest
-marked_more row all left k rest room inside M S l =
-    after_set 0 row k 1 room (λ l v. (v ≡ 1) ↔ (In all l × (In rest l → ⊥)))
-    ((λ _. (inside k S.has, λ r. ((S.others k).0 r).1 refl)), (λ _. refl))
-    (λ l other. (
-      (λ e. let p = (M l).0 e in (p.0, λ r. p.1 ((S.others l).0 r).0)),
-      (λ p. (M l).1 (p.0, λ h. p.1 ((S.others l).1 (h, other)))),
-    )) l
 
 -- a filled table, one place further
 pub filled_more : {X : Type 0} (d : X) (P : ℕ → X → Type 0) (table : List X) (n : ℕ) (x : X) → n < length table →

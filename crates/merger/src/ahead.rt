@@ -4,6 +4,7 @@ ghost use Rattle.sets.specs.Sets.{In};
 ghost use Rattle.merger.specs.Grids.{at, set_at, On, Groups, Ahead, Several, Outlooks};
 
 use crate::reach::union;
+use crate::tables::table;
 use sets::Set;
 
 // The numbers of the members of `places`, where `groups` has the places of each number.
@@ -42,29 +43,6 @@ fn ahead(moves: Set, class: &[u8; 128], members: &[Set; 128], from: usize, count
     with_own(others, own, moves.has(from))
 }
 
-// For each component in `wanted`, the classes one move ahead of it.
-fn look_ahead(
-    moves: &[Set; 128],
-    class: &[u8; 128],
-    members: &[Set; 128],
-    wanted: Set,
-    count: usize,
-) -> [Set; 128]
-    requires few { count ≤ 128 }
-    requires groups { Groups members.now class.now count }
-    requires wanted { (k : ℕ) → In wanted k → k < count }
-    requires inside { (k : ℕ) → In wanted k → (to : ℕ) → In (set_at moves.now k) to → to < count }
-    ensures { (k : ℕ) → In wanted k → (c : ℕ) → In (set_at result k) c ↔ Ahead (In (set_at moves.now k)) (at class.now) k c }
-{
-    let mut table = [Set::NONE; 128];
-    let mut left = wanted;
-    while let Some((k, rest)) = left.split_first() {
-        table[k] = ahead(moves[k], class, members, k, count);
-        left = rest;
-    }
-    table
-}
-
 // For each component in `wanted`, the classes one move ahead of what it reaches. What is reached from there is wanted too.
 pub(crate) fn outlooks(
     reach: &[[u8; 128]; 128],
@@ -81,14 +59,10 @@ pub(crate) fn outlooks(
     requires closed { (k l : ℕ) → In wanted k → l < count → On reach.now k l → In wanted l }
     ensures { Outlooks result reach.now moves.now class.now count wanted }
 {
-    let ahead = look_ahead(moves, class, members, wanted, count);
-    let mut rows = [Set::NONE; 128];
-    let mut left = wanted;
-    while let Some((k, rest)) = left.split_first() {
-        rows[k] = union(&reach[k], &ahead, count);
-        left = rest;
-    }
-    rows
+    let ahead = table(Set::NONE, wanted, |k| {
+        ahead(moves[k], class, members, k, count)
+    });
+    table(Set::NONE, wanted, |k| union(&reach[k], &ahead, count))
 }
 
 // The components that share their class with another.

@@ -5,6 +5,7 @@ ghost use Rattle.merger.specs.Grids.{at, set_at};
 ghost use Rattle.merger.specs.Starts.{Tied};
 
 use crate::ahead::numbers_of;
+use crate::tables::table;
 use sets::Set;
 
 // Of each component: its states, and the states that they move to.
@@ -42,9 +43,7 @@ pub(crate) fn moves_between(
     ensures { (k l : ℕ) → k < count → In (set_at result k) l ↔ ((s t : ℕ) × (s < states) × In (set_at rows.now s) t × (at component.now s ≡ k) × (at component.now t ≡ l)) }
 {
     let ties = tie(rows, component, states);
-    let mut moves = [Set::NONE; 128];
-    for k in 0..count {
-        moves[k] = numbers_of(ties.targets[k], component, &ties.members);
-    }
-    moves
+    table(Set::NONE, Set::below(count), |k| {
+        numbers_of(ties.targets[k], component, &ties.members)
+    })
 }

@@ -5,6 +5,7 @@ ghost use Rattle.kripke.specs.Paths.{Trail};
 ghost use Rattle.merger.specs.Grids.{at, set_at, Groups};
 ghost use Rattle.merger.specs.Starts.{Inner};
 
+use crate::tables::table;
 use sets::Set;
 
 // For each component, itself and the components of its class that it moves to.
@@ -13,12 +14,10 @@ fn inner(moves: &[Set; 128], class: &[u8; 128], members: &[Set; 128], count: usi
     requires groups { Groups members.now class.now count }
     ensures { (k l : ℕ) → k < count → In (set_at result k) l ↔ Inner moves.now class.now count k l }
 {
-    let mut table = [Set::NONE; 128];
-    for k in 0..count {
+    table(Set::NONE, Set::below(count), |k| {
         let group = members[class[k] as usize];
-        table[k] = moves[k].and(group).with(k);
-    }
-    table
+        moves[k].and(group).with(k)
+    })
 }
 
 // Adds what `mid` reaches to what the components of its class reach that reach `mid`.
@@ -31,12 +30,10 @@ fn pass(reach: &mut [Set; 128], mid: usize, group: Set)
     if !beyond.several() {
         return;
     }
-    let mut left = group;
-    while let Some((k, rest)) = left.split_first() {
+    for k in group {
         if reach[k].has(mid) {
             reach[k] = reach[k].or(beyond);
         }
-        left = rest;
     }
 }
 

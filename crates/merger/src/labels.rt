@@ -8,6 +8,7 @@ ghost use Rattle.merger.specs.Tables.{words_of};
 ghost use Rattle.merger.specs.Starts.{Spoken};
 
 use crate::parting::{Parting, part};
+use crate::tables::table;
 use models::Model;
 use sets::Set;
 
@@ -35,10 +36,7 @@ pub(crate) fn label_classes(facts: &[u64; 128], count: usize) -> Parting
     ensures numbers { Numbering (λ j k. SameWords (words_of (at facts.now j)) (words_of (at facts.now k))) count (at result.class) result.classes }
     ensures groups { Groups result.members result.class count }
 {
-    let mut rows = [Set::NONE; 128];
-    for k in 0..count {
-        rows[k] = Set::from_bits(facts[k]);
-    }
+    let rows = table(Set::NONE, Set::below(count), |k| Set::from_bits(facts[k]));
     let all = [0; 128];
     part(&rows, &all, count)
 }

@@ -30,10 +30,8 @@ pub(crate) fn look_over<M: Model>(
     ensures { Surveyed (M.Model.means model.now) found.new }
 {
     let size = model.size();
-    let count = match find_components(model, walks, states, &mut found.component) {
-        Ok(parts) => parts.count as usize,
-        Err(_) => unreachable(),
-    };
+    let parts = find_components(model, walks, states, &mut found.component).unwrap();
+    let count = parts.count as usize;
     let facts = facts_of(model, &found.component, size);
     let moves = moves_between(rows, &found.component, size as usize, count);
     found.states = size;

@@ -25,14 +25,7 @@ pub(crate) struct Parting {
 fn find_like(heads: Set, rows: &[Set; 128], row: Set) -> Option<usize>
     ensures { MatchOption result ((j : ℕ) → In heads j → Same (set_at rows.now j) row → ⊥) (λ j. In heads j × Same (set_at rows.now j) row) }
 {
-    let mut left = heads;
-    while let Some((j, rest)) = left.split_first() {
-        if rows[j].same(row) {
-            return Some(j);
-        }
-        left = rest;
-    }
-    None
+    heads.into_iter().find(|&j| rows[j].same(row))
 }
 
 impl Parting {

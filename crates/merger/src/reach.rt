@@ -5,6 +5,7 @@ ghost use Rattle.sets.specs.Sets.{In};
 ghost use Rattle.merger.specs.Grids.{at, set_at, On, Kept, Narrowed};
 
 use crate::parting::Parting;
+use crate::tables::table;
 use sets::Set;
 
 // Whether eight places from `from` on are all clear.
@@ -55,26 +56,13 @@ pub(crate) fn union(row: &[u8; 128], sets: &[Set; 128], count: usize) -> Set
     all
 }
 
-// The marks of the components in a set.
-fn marks(set: Set) -> [u8; 128]
-    ensures { (l : ℕ) → (at result l ≡ 1) ↔ In set l }
-{
-    let mut row = [0; 128];
-    let mut left = set;
-    while let Some((l, rest)) = left.split_first() {
-        row[l] = 1;
-        left = rest;
-    }
-    row
-}
-
 // Marks in each row what is in the component's set.
 pub(crate) fn mark_all(reach: &mut [[u8; 128]; 128], sets: &[Set; 128], count: usize)
     requires { count ≤ 128 }
     ensures { (k l : ℕ) → k < count → On reach.new k l ↔ In (set_at sets.now k) l }
 {
     for k in 0..count {
-        reach[k] = marks(sets[k]);
+        reach[k] = table(0, sets[k], |_| 1);
     }
 }
 
@@ -82,10 +70,8 @@ pub(crate) fn mark_all(reach: &mut [[u8; 128]; 128], sets: &[Set; 128], count: u
 pub(crate) fn clear(row: &mut [u8; 128], gone: Set)
     ensures { Kept row.old row.new gone }
 {
-    let mut left = gone;
-    while let Some((l, rest)) = left.split_first() {
+    for l in gone {
         row[l] = 0;
-        left = rest;
     }
 }
 

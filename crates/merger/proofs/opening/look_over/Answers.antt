@@ -9,8 +9,9 @@ use Rattle.merger.proofs.opening.look_over.Goals as goal
 pub facts_of-facts-requires : goal.facts_of-facts-requires
 facts_of-facts-requires g c =
     let M = g.M.Model.means c.args.model.now in
-    let K = c.in-Ok.ensures.1.components in
-    let few = ranked_few M.frame.size c.in-Ok.parts.count (number c.find_components.new.part) K.ranked in
+    let found = rw c.unwrap-parts.ensures at c.find_components.ensures in
+    let K = found.1.components in
+    let few = ranked_few M.frame.size c.unwrap-parts.result.count (number c.find_components.new.part) K.ranked in
     let e = c.size-size.ensures in
     let small = c.requires.admitted.0.1 in
     record {
@@ -22,8 +23,9 @@ facts_of-facts-requires g c =
 pub moves_between-moves-requires : goal.moves_between-moves-requires
 moves_between-moves-requires g c =
     let M = g.M.Model.means c.args.model.now in
-    let K = c.in-Ok.ensures.1.components in
-    let few = ranked_few M.frame.size c.in-Ok.parts.count (number c.find_components.new.part) K.ranked in
+    let found = rw c.unwrap-parts.ensures at c.find_components.ensures in
+    let K = found.1.components in
+    let few = ranked_few M.frame.size c.unwrap-parts.result.count (number c.find_components.new.part) K.ranked in
     let e = c.size-size.ensures in
     let small = c.requires.admitted.0.1 in
     record {
@@ -35,7 +37,8 @@ moves_between-moves-requires g c =
 pub returns : goal.returns
 returns g c =
     let M = g.M.Model.means c.args.model.now in
-    let K = c.in-Ok.ensures.1.components in
+    let found = rw c.unwrap-parts.ensures at c.find_components.ensures in
+    let K = found.1.components in
     let component = c.find_components.new.part in
     let e = c.size-size.ensures in
     record {
@@ -43,7 +46,7 @@ returns g c =
       admitted = c.requires.admitted;
       states = e;
       words = c.words-found.ensures;
-      facts = λ s h. spoken_words M (g.M.Model.formed c.args.model.now) component c.facts_of-facts.result c.in-Ok.parts.count K s h
+      facts = λ s h. spoken_words M (g.M.Model.formed c.args.model.now) component c.facts_of-facts.result c.unwrap-parts.result.count K s h
           (subst (λ n. Spoken M component c.facts_of-facts.result n (at component s)) e (c.facts_of-facts.ensures s (omega arith)));
       components = K;
       moves = λ k l h.

@@ -1,32 +1,17 @@
-use Rattle.std.proofs.Common.{ℕ, subst, inl, inr, ⊎_elim}
-use Rattle.std.proofs.lemmas.Bool.{cases_eq, both_ways}
-use Rattle.sets.proofs.Bits.{On, none_in}
+use Rattle.std.proofs.Common.{subst, rules, tests}
+use Rattle.std.proofs.lemmas.Iterator.{YieldsList, first_from_find}
+use Rattle.sets.specs.declared.Set.{Set}
+use Rattle.sets.specs.Sets.{members}
+use Rattle.sets.proofs.Iterating.{Gives, gives_members}
 use Rattle.merger.specs.Grids.{set_at, Same}
+use Rattle.merger.proofs.Placing.{found_member}
 use Rattle.merger.proofs.parting.find_like.Goals as goal
 
-pub loop-j-init : goal.loop-j-init
-loop-j-init c = ((λ j h. h), λ j h. inl h)
-
-pub returns-then-same : goal.returns-then-same
-returns-then-same c = (c.loop-j.invariant.0 c.in-Some.j c.in-Some.ensures.has, c.same.ensures.0 c.if-same.true)
-
-pub loop-j-smaller : goal.loop-j-smaller
-loop-j-smaller c = c.in-Some.ensures.falls
-
-pub loop-j-preserved : goal.loop-j-preserved
-loop-j-preserved c =
-    let S = c.in-Some.ensures in
-    let i = c.loop-j.invariant in (
-      (λ j h. i.0 j ((S.others j).0 h).0),
-      (λ j h. ⊎_elim
-          (λ e. inr (λ same. both_ways c.same.result c.if-same.false
-          (c.same.ensures.1 (subst (λ k. Same (set_at c.args.rows.now k) c.args.row) e same))))
-          (λ other. ⊎_elim (λ l. inl ((S.others j).1 (l, other))) inr (i.1 j h))
-          (cases_eq j c.in-Some.j)),
-    )
-
 pub returns : goal.returns
-returns c j h same = ⊎_elim
-    (λ l. none_in j (subst (λ (b : ℕ). On b j) c.in_default.ensures l))
-    (λ n. n same)
-    (c.loop-j.invariant.1 j h)
+returns c =
+    let rows = c.args.rows.now in
+    let heads = c.args.heads in
+    found_member heads (search rules) c.find.result (λ j. Same (set_at rows j) c.args.row) (λ j. Same (set_at rows j) c.args.row → ⊥)
+    (first_from_find _ _ c.find.result (λ j. Same (set_at rows j) c.args.row) (λ j. Same (set_at rows j) c.args.row → ⊥) c.find.ensures.ran
+    (subst (λ (x : Set). YieldsList Gives (λ k. k) c.into_iter.result (members x)) c.into_iter.ensures.into_iter_gives (gives_members c.into_iter.result))
+    (λ j q e. search (rules, tests)) (λ j q e. search (rules, tests)))
