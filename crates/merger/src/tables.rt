@@ -2,6 +2,8 @@
 ghost use Rattle.std.specs.Prelude.{◌≡◌, ℕ, ◌<◌, slice_index_or};
 ghost use Rattle.sets.specs.Sets.{In};
 
+use crate::partition::Partition;
+use crate::reach::Reach;
 use sets::Set;
 
 // What an accepted open found; no round alters it.
@@ -24,13 +26,9 @@ pub struct Found {
 pub struct Rounds {
     pub(crate) made: usize,
     pub(crate) settled: bool,
-    pub(crate) classes: usize,
-    // of each component: its class
-    pub(crate) class: [u8; 128],
-    // of each class: its components
-    pub(crate) members: [Set; 128],
-    // of each component, for each other: 1 if it is reached from the first inside their class
-    pub(crate) reach: [[u8; 128]; 128],
+    // of the components
+    pub(crate) partition: Partition,
+    pub(crate) reach: Reach,
 }
 
 // The table that has what `make` gives at each of `places`, and `blank` at the others.

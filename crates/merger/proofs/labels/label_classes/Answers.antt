@@ -1,15 +1,11 @@
-use Rattle.std.proofs.Common.{◌≡◌, ℕ, ◌<◌, ◌↔◌, replicate, sym, ◌∙◌, arith, rules}
+use Rattle.std.proofs.Common.{◌≡◌, ℕ, ◌<◌, ◌↔◌, arith, rules}
 use Rattle.kripke.specs.Words.{SameWords}
 use Rattle.sets.specs.Sets.{bit, In, none}
-use Rattle.merger.specs.Grids.{at, set_at, Like}
+use Rattle.merger.specs.Grids.{at, set_at, Same}
 use Rattle.merger.specs.Tables.{words_of}
-use Rattle.merger.proofs.Blank.{blank}
 use Rattle.merger.proofs.Advancing.{numbering_as}
 use Rattle.merger.proofs.Speaking.{same_words}
 use Rattle.merger.proofs.labels.label_classes.Goals as goal
-
-pub part-requires-clause-low : goal.part-requires-clause-low
-part-requires-clause-low c k h = let z : at (replicate 128 0) k ≡ 0 = blank 128 k 0 in omega arith
 
 pub returns-clause-numbers : goal.returns-clause-numbers
 returns-clause-numbers c =
@@ -18,8 +14,6 @@ returns-clause-numbers c =
     let few = c.requires in
     let tells : (k : ℕ) → k < c.args.count → (j : ℕ) → In (set_at rows k) j ↔ ((j < 64) × (bit (at facts k) j ≡ 1)) =
     λ k h. search (rules, c.table-rows.ensures.made k none ((c.below.ensures k).1 (h, omega arith))) in
-    numbering_as (Like rows (replicate 128 0)) (λ j k. SameWords (words_of (at facts j)) (words_of (at facts k))) c.args.count _ _
-    (λ j k h l.
-    let s = same_words (at facts j) (at facts k) (set_at rows j) (set_at rows k) (tells j h) (tells k l) in
-    ((λ p. s.0 p.1), (λ q. (blank 128 j 0 ∙ sym (blank 128 k 0), s.1 q))))
-    c.part.ensures.numbers
+    numbering_as (λ j k. Same (set_at rows j) (set_at rows k)) (λ j k. SameWords (words_of (at facts j)) (words_of (at facts k))) c.args.count _ _
+    (λ j k h l. same_words (at facts j) (at facts k) (set_at rows j) (set_at rows k) (tells j h) (tells k l))
+    c.by_rows.ensures.numbers
