@@ -1,12 +1,15 @@
 -- One round on the tables, from what its parts do.
-use Rattle.std.proofs.Common.{◌≡◌, ℕ, ◌<◌, ◌↔◌, List, sym, refl, ◌∙◌, subst, ⊎_elim}
+use Rattle.std.proofs.Common.{◌≡◌, ℕ, ◌<◌, ◌↔◌, List, sym, refl, ◌∙◌, subst, ⊎_elim, arith}
 use Rattle.std.proofs.lemmas.Bool.{cases_eq}
 use Rattle.sets.specs.declared.Set.{Set}
 use Rattle.sets.specs.Sets.{In}
 use Rattle.kripke.specs.Numbering.{Numbering}
 use Rattle.merger.specs.declared.tables.Found.{Found}
 use Rattle.merger.specs.declared.tables.Rounds.{Rounds}
-use Rattle.merger.specs.Grids.{at, set_at, On, Groups, Several, Outlook, Outlooks, Like, Narrowed}
+use Rattle.merger.specs.declared.partition.Partition.{Partition}
+use Rattle.merger.specs.declared.reach.Reach.{Reach}
+use Rattle.merger.specs.Grids.{at, set_at, Several, Like}
+use Rattle.merger.specs.Reaching.{On, Outlook, Outlooks, Narrowed}
 use Rattle.merger.specs.Tables.{Bounded, Together}
 
 pub numbering_as : (L L' : ℕ → ℕ → Type 0) (n m : ℕ) (f : ℕ → ℕ) → ((i j : ℕ) → i < n → j < n → L i j ↔ L' i j) → Numbering L n f m → Numbering L' n f m
@@ -16,31 +19,41 @@ numbering_as L L' n m f both N = record {
 }
 
 module _ (F : Found) (S : Rounds) (B : Bounded F S) (wanted : Set)
-    (shares : (k : ℕ) → In wanted k ↔ ((c : ℕ) × (c < S.classes) × Several (set_at S.members c) × In (set_at S.members c) k)) where
+    (shares : (k : ℕ) → In wanted k ↔ ((c : ℕ) × (c < S.partition.classes) × Several (set_at S.partition.members c) × In (set_at S.partition.members c) k)) where
+  abbrev P : Partition
+  P = S.partition
+
   -- what is wanted are components
-  pub wanted_low : (k : ℕ) → In wanted k → k < F.components
-  wanted_low k h = let p = (shares k).0 h in ((B.groups.each p.0 k).0 p.3).0
+  pub wanted_low : (k : ℕ) → In wanted k → k < P.len
+  wanted_low k h = let p = (shares k).0 h in ((P.groups.each p.0 k).0 p.3).0
 
   -- two components of one class are wanted
-  pub wanted_two : (j k : ℕ) → j < F.components → k < F.components → (j ≡ k → ⊥) → at S.class j ≡ at S.class k → In wanted k
+  pub wanted_two : (j k : ℕ) → j < P.len → k < P.len → (j ≡ k → ⊥) → at P.class j ≡ at P.class k → In wanted k
   wanted_two j k h l other e =
-      let a = (B.groups.each (at S.class k) j).1 (h, e) in
-      let b = (B.groups.each (at S.class k) k).1 (l, refl) in
-      (shares k).1 (at S.class k, B.low k l, (j, k, a, b, other), b)
+      let a = (P.groups.each (at P.class k) j).1 (h, e) in
+      let b = (P.groups.each (at P.class k) k).1 (l, refl) in
+      (shares k).1 (at P.class k, P.low k l, (j, k, a, b, other), b)
 
   -- and all of a class, where one is
-  pub wanted_class : (j k : ℕ) → In wanted j → k < F.components → at S.class j ≡ at S.class k → In wanted k
+  pub wanted_class : (j k : ℕ) → In wanted j → k < P.len → at P.class j ≡ at P.class k → In wanted k
   wanted_class j k h l e =
       let p = (shares j).0 h in
-      let own = ((B.groups.each p.0 j).0 p.3).1 in
-      (shares k).1 (p.0, p.1, p.2, (B.groups.each p.0 k).1 (l, sym e ∙ own))
+      let own = ((P.groups.each p.0 j).0 p.3).1 in
+      (shares k).1 (p.0, p.1, p.2, (P.groups.each p.0 k).1 (l, sym e ∙ own))
+
+  -- and all that a wanted one reaches
+  pub wanted_reached : (k l : ℕ) → In wanted k → l < P.len → On S.reach k l → In wanted l
+  wanted_reached k l h b o =
+      let same = B.items in
+      let low = wanted_low k h in
+      wanted_class k l h b (B.near k l (omega arith) (omega arith) o)
 
   -- rows compared are outlooks compared
-  pub like_together : (rows : List Set) → Outlooks rows S.reach F.moves S.class F.components wanted →
-      (j k : ℕ) → j < F.components → k < F.components → Like rows S.class j k ↔ Together F S j k
+  pub like_together : (rows : List Set) → Outlooks rows S.reach F.moves P wanted →
+      (j k : ℕ) → j < P.len → k < P.len → Like rows P.class j k ↔ Together F S j k
   like_together rows tells j k h l = ⊎_elim
       (λ e. (
-        (λ p. (p.0, λ c. subst (λ i. Outlook S.reach F.moves S.class F.components j c ↔ Outlook S.reach F.moves S.class F.components i c) e (λ o. o, λ o. o))),
+        (λ p. (p.0, λ c. subst (λ i. Outlook S.reach F.moves P j c ↔ Outlook S.reach F.moves P i c) e (λ o. o, λ o. o))),
         (λ p. (p.0, λ c. subst (λ i. In (set_at rows j) c ↔ In (set_at rows i) c) e (λ o. o, λ o. o))),
       ))
       (λ other. (
@@ -56,14 +69,11 @@ module _ (F : Found) (S : Rounds) (B : Bounded F S) (wanted : Set)
       (cases_eq j k)
 
   -- what is cut from the reach are the pairs that were parted
-  pub cut_parted : (reach' : List (List ℕ)) (class' : List ℕ) (members' : List Set) → Groups members' class' F.components →
-      Narrowed S.reach reach' S.class S.members class' members' F.components →
-      (k l : ℕ) → k < F.components → l < F.components → On reach' k l ↔ (On S.reach k l × (at class' k ≡ at class' l))
-  cut_parted reach' class' members' G N k l h b =
-      let n = N k l h in (
-        (λ o.
-            let p = n.0 o in
-            let old = (B.groups.each (at S.class k) l).1 (b, sym (B.near k l h b p.0)) in
-            (p.0, ⊎_elim (λ e. e) (λ other. absurd (p.1 (old, λ g. other (sym ((G.each (at class' k) l).0 g).1)))) (cases_eq (at class' k) (at class' l)))),
-        (λ p. n.1 (p.0, λ g. g.1 ((G.each (at class' k) l).1 (b, sym p.1)))),
+  pub cut_parted : (reach' : Reach) (P' : Partition) → Narrowed S.reach reach' P P' →
+      (k l : ℕ) → k < F.components → l < F.components → On reach' k l ↔ (On S.reach k l × (at P'.class k ≡ at P'.class l))
+  cut_parted reach' P' N k l h b =
+      let same = B.items in
+      let n = N k l (omega arith) in (
+        (λ o. let p = n.0 o in (p.0, sym (p.1 (omega arith) (sym (B.near k l h b p.0))))),
+        (λ p. n.1 (p.0, λ _ _. sym p.1)),
       )

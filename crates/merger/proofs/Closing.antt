@@ -1,27 +1,27 @@
 -- What components reach inside their class, one inner component after the other.
-use Rattle.std.proofs.Common.{◌≡◌, ℕ, zero, suc, ◌<◌, ◌≤◌, ◌⊎◌, ◌↔◌, List, length, set, sym, refl, ap, ◌∙◌, subst, inl, inr, ⊎_elim, arith}
+use Rattle.std.proofs.Common.{◌≡◌, ℕ, zero, suc, ◌<◌, ◌⊎◌, ◌↔◌, List, length, set, sym, refl, ap, ◌∙◌, subst, inl, inr, ⊎_elim, arith}
 use Rattle.std.proofs.lemmas.Bool.{cases_eq}
 use Rattle.sets.specs.declared.Set.{Set}
 use Rattle.sets.specs.Sets.{In, none, Splits}
 use Rattle.kripke.specs.Paths.{Trail}
 use Rattle.kripke.proofs.Roads.{Steps, Via, via_road, road_via}
-use Rattle.merger.specs.Grids.{at, set_at, Groups, Several}
+use Rattle.merger.specs.declared.partition.Partition.{Partition}
+use Rattle.merger.specs.Grids.{at, set_at}
 use Rattle.merger.specs.Starts.{Inner}
 use Rattle.merger.proofs.Blank.{after_set}
 
 -- one row of the inner moves
-pub inner-row : (moves members : List Set) (class : List ℕ) (count k : ℕ) (both x : Set) → Groups members class count → k < count → count ≤ 128 →
-    ((j : ℕ) → In both j ↔ (In (set_at moves k) j × In (set_at members (at class k)) j)) →
-    ((j : ℕ) → In x j ↔ (In both j ⊎ ((j ≡ k) × (k < 128)))) →
-    (l : ℕ) → In x l ↔ Inner moves class count k l
-inner-row moves members class count k both x G h few meet with' l = (
+pub inner-row : (moves : List Set) (P : Partition) (k : ℕ) (x : Set) → k < P.len →
+    ((j : ℕ) → In x j ↔ ((In (set_at moves k) j × (j < P.len) × (at P.class j ≡ at P.class k)) ⊎ ((j ≡ k) × (k < 128)))) →
+    (l : ℕ) → In x l ↔ Inner moves P k l
+inner-row moves P k x h row l = (
   (λ o. ⊎_elim
-      (λ b. let p = (meet l).0 b in let g = (G.each (at class k) l).0 p.1 in (h, g.0, sym g.1, inr p.0))
-      (λ e. (h, subst (λ i. i < count) (sym e.0) h, ap (at class) (sym e.0), inl e.0))
-      ((with' l).0 o)),
-  (λ p. (with' l).1 (elim p.3 [
-    | inl e ↦ inr (e, omega arith)
-    | inr m ↦ inl ((meet l).1 (m, (G.each (at class k) l).1 (p.1, sym p.2)))
+      (λ p. (h, p.1, sym p.2, inr p.0))
+      (λ e. (h, subst (λ i. i < P.len) (sym e.0) h, ap (at P.class) (sym e.0), inl e.0))
+      ((row l).0 o)),
+  (λ p. (row l).1 (elim p.3 [
+    | inl e ↦ inr (e, let few = P.few in omega arith)
+    | inr m ↦ inl (m, p.1, sym p.2)
   ])),
 )
 
@@ -32,12 +32,6 @@ pub record Passed (reach reach' : List Set) (mid : ℕ) (group left : Set) : Typ
       (In (set_at reach k) l ⊎ (In group k × (In left k → ⊥) × In (set_at reach k) mid × In (set_at reach mid) l))
 
 module _ (reach : List Set) (mid : ℕ) (group : Set) where
-  pub passed_none : Passed reach reach mid group group
-  passed_none = record {
-    inside = λ k h. h;
-    each = λ k l. (inl, ⊎_elim (λ o. o) (λ p. absurd (p.1 p.0)));
-  }
-
   module _ (reach' : List Set) (left : Set) (k : ℕ) (rest : Set) (P : Passed reach reach' mid group left) (S : Splits left k rest) where
     -- what is left is as it was
     was : (l : ℕ) → In (set_at reach' k) l → In (set_at reach k) l
@@ -72,31 +66,15 @@ module _ (reach : List Set) (mid : ℕ) (group : Set) where
           (cases_eq j k);
     }
 
-  -- what a pass leaves
-  abbrev pub Through : List Set → Type 0
-  Through reach' = (k l : ℕ) → In (set_at reach' k) l ↔ (In (set_at reach k) l ⊎ (In group k × In (set_at reach k) mid × In (set_at reach mid) l))
+-- what a pass leaves
+abbrev pub Through : List Set → ℕ → Set → List Set → Type 0
+Through reach mid group reach' = (k l : ℕ) → In (set_at reach' k) l ↔ (In (set_at reach k) l ⊎ (In group k × In (set_at reach k) mid × In (set_at reach mid) l))
 
-  pub passed_all : (reach' : List Set) (left : Set) → ((k : ℕ) → In left k → ⊥) → Passed reach reach' mid group left → Through reach'
-  passed_all reach' left empty P k l = (
-    (λ h. ⊎_elim inl (λ p. inr (p.0, p.2, p.3)) ((P.each k l).0 h)),
-    (λ h. (P.each k l).1 (⊎_elim inl (λ p. inr (p.0, empty k, p.1, p.2)) h)),
-  )
-
-  -- where mid reaches only itself, nothing is to be done
-  pub passed_alone : In (set_at reach mid) mid → (Several (set_at reach mid) → ⊥) → Through reach
-  passed_alone own few k l = (
-    inl,
-    ⊎_elim (λ o. o) (λ p. ⊎_elim
-        (λ e. subst (λ i. In (set_at reach k) i) (sym e) p.1)
-        (λ n. absurd (few (l, mid, p.2, own, n)))
-        (cases_eq l mid)),
-  )
-
-module _ (moves : List Set) (class : List ℕ) (count : ℕ) where
+module _ (moves : List Set) (P : Partition) where
   abbrev E : ℕ → ℕ → Type 0
-  E = Inner moves class count
+  E = Inner moves P
 
-  via-inside : (m k l : ℕ) → Via E m k l → (k < count) × (l < count) × (at class k ≡ at class l)
+  via-inside : (m k l : ℕ) → Via E m k l → (k < P.len) × (l < P.len) × (at P.class k ≡ at P.class l)
   via-inside zero k l p = (p.0, p.1, p.2)
   via-inside (suc m) k l (inl p) = via-inside m k l p
   via-inside (suc m) k l (inr p) =
@@ -104,37 +82,37 @@ module _ (moves : List Set) (class : List ℕ) (count : ℕ) where
       let b = via-inside m m l p.1 in
       (a.0, b.1, a.2 ∙ b.2)
 
-  pub via_own : (m k : ℕ) → k < count → Via E m k k
+  pub via_own : (m k : ℕ) → k < P.len → Via E m k k
   via_own zero k h = (h, h, refl, inl refl)
   via_own (suc m) k h = inl (via_own m k h)
 
   -- one more inner component
-  pub via_pass : (members : List Set) → Groups members class count → (reach reach' : List Set) (mid : ℕ) → mid < count →
-      ((k l : ℕ) → k < count → In (set_at reach k) l ↔ Via E mid k l) → Through reach mid (set_at members (at class mid)) reach' →
-      (k l : ℕ) → k < count → In (set_at reach' k) l ↔ Via E (suc mid) k l
-  via_pass members G reach reach' mid h V T k l b = (
+  pub via_pass : (reach reach' : List Set) (mid : ℕ) (group : Set) → mid < P.len → ((j : ℕ) → In group j ↔ ((j < P.len) × (at P.class j ≡ at P.class mid))) →
+      ((k l : ℕ) → k < P.len → In (set_at reach k) l ↔ Via E mid k l) → Through reach mid group reach' →
+      (k l : ℕ) → k < P.len → In (set_at reach' k) l ↔ Via E (suc mid) k l
+  via_pass reach reach' mid group h mates V T k l b = (
     (λ o. ⊎_elim (λ p. inl ((V k l b).0 p)) (λ p. inr ((V k mid b).0 p.1, (V mid l h).0 p.2)) ((T k l).0 o)),
     (λ v. (T k l).1 (elim v [
       | inl p ↦ inl ((V k l b).1 p)
-      | inr p ↦ inr ((G.each (at class mid) k).1 (b, (via-inside mid k mid p.0).2), (V k mid b).1 p.0, (V mid l h).1 p.1)
+      | inr p ↦ inr ((mates k).1 (b, (via-inside mid k mid p.0).2), (V k mid b).1 p.0, (V mid l h).1 p.1)
     ])),
   )
 
-  steps-trail : (n k l : ℕ) → k < count → Steps E n k l → Trail E (λ j. j < count) n k l
+  steps-trail : (n k l : ℕ) → k < P.len → Steps E n k l → Trail E (λ j. j < P.len) n k l
   steps-trail zero k l h p = (p, h)
   steps-trail (suc n) k l h p = (p.0, h, p.1, steps-trail n p.0 l p.1.1 p.2)
 
-  trail-steps : (n k l : ℕ) → Trail E (λ j. j < count) n k l → Steps E n k l
+  trail-steps : (n k l : ℕ) → Trail E (λ j. j < P.len) n k l → Steps E n k l
   trail-steps zero k l p = p.0
   trail-steps (suc n) k l p = (p.0, p.2, trail-steps n p.0 l p.3)
 
   -- with all components let in, the paths
-  pub via_trail : (k l : ℕ) → k < count → Via E count k l ↔ ((n : ℕ) × Trail E (λ j. j < count) n k l)
+  pub via_trail : (k l : ℕ) → k < P.len → Via E P.len k l ↔ ((n : ℕ) × Trail E (λ j. j < P.len) n k l)
   via_trail k l h = (
-    (λ v. let r = via_road E count k l v in (suc r.0, steps-trail (suc r.0) k l h r.1)),
+    (λ v. let r = via_road E P.len k l v in (suc r.0, steps-trail (suc r.0) k l h r.1)),
     from,
   )
     where
-      from : (n : ℕ) × Trail E (λ j. j < count) n k l → Via E count k l
-      from (zero, p) = subst (λ i. Via E count k i) p.0 (via_own count k h)
-      from (suc n, p) = road_via E count (λ s t e. e.1) n k l (trail-steps (suc n) k l p)
+      from : (n : ℕ) × Trail E (λ j. j < P.len) n k l → Via E P.len k l
+      from (zero, p) = subst (λ i. Via E P.len k i) p.0 (via_own P.len k h)
+      from (suc n, p) = road_via E P.len (λ s t e. e.1) n k l (trail-steps (suc n) k l p)

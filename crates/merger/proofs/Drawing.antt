@@ -1,12 +1,12 @@
 -- A reduced model that is filled after the settling round.
-use Rattle.std.proofs.Common.{◌≡◌, ℕ, ◌+◌, ◌<◌, ◌≤◌, true, false, cond, ltb, ◌↔◌, List, [], length, get_or, set, Some, None, slice_get, sym, ap, ◌∙◌, subst, ⊎_elim, arith}
-use Rattle.std.proofs.lemmas.Bool.{cases_eq, cases_lt, cases_Bool, lt-ltb, ltb-true, cond-true, cond-false}
-use Rattle.std.proofs.lemmas.Option.{slice_get_within, get_or_from_slice_get}
-use Rattle.std.proofs.lemmas.List.{get_or_default, get_or-set_same, get_or-set_other, length-set}
+use Rattle.std.proofs.Common.{◌≡◌, ℕ, ◌<◌, ◌≤◌, true, false, cond, ltb, ◌↔◌, List, [], length, get_or, Some, None, slice_get, sym, ap, ◌∙◌, subst, ⊎_elim, arith}
+use Rattle.std.proofs.lemmas.Bool.{cases_lt, lt-ltb, le-ltb, cond-true, cond-false}
+use Rattle.std.proofs.lemmas.Option.{slice_get-get_or, slice_get_past}
 use Rattle.sets.specs.declared.Set.{Set}
 use Rattle.sets.specs.Sets.{In, none, members}
 use Rattle.sets.proofs.Members.{members_has, members_in, members_rise}
-use Rattle.kripke.specs.Models.{Kripke, nowhere, move}
+use Rattle.kripke.specs.Models.{Kripke, Alike, nowhere, move}
+use Rattle.kripke.specs.Components.{Components}
 use Rattle.kripke.specs.Paths.{Move}
 use Rattle.kripke.specs.Relation.{Related}
 use Rattle.kripke.specs.Reduced.{Rising}
@@ -15,8 +15,9 @@ use Rattle.kripke.proofs.Sampling.{Sampled, sampled_reduces}
 use Rattle.merger.specs.declared.tables.Found.{Found}
 use Rattle.merger.specs.declared.tables.Rounds.{Rounds}
 use Rattle.merger.specs.declared.reduced.Reduced.{Reduced}
-use Rattle.merger.specs.Grids.{at, set_at, On, Outlook}
-use Rattle.merger.specs.Tables.{part, class_of, words_of, Bounded}
+use Rattle.merger.specs.Grids.{at, set_at}
+use Rattle.merger.specs.Reaching.{On, Outlook}
+use Rattle.merger.specs.Tables.{part, class_of, words_of, Passes, Bounded}
 use Rattle.merger.specs.Analysed.{Surveyed, Tabled}
 use Rattle.merger.specs.Filled.{filled_frame, filled_formed}
 use Rattle.merger.specs.Reducing.{meaning, Drawn, Fills}
@@ -25,66 +26,40 @@ use Rattle.merger.proofs.Promising.{settles_stable, tabled_promise}
 use Rattle.merger.proofs.Blank.{no_words}
 use Rattle.sets.proofs.Bits.{none_in}
 
-pub nth-at : (xs : List ℕ) (k t : ℕ) → Some t ≡ slice_get xs k → (k < length xs) × (get_or xs k 0 ≡ t)
-nth-at xs k t e = (slice_get_within xs k t (sym e), get_or_from_slice_get xs k t 0 (sym e))
+-- a move is what a row has at its number
+pub move-slice_get : (xs : List ℕ) (k : ℕ) → slice_get xs k ≡ move xs k
+move-slice_get xs k = ⊎_elim
+    (λ l. slice_get-get_or xs k nowhere l ∙ sym (cond-true (ltb k (length xs)) (Some (get_or xs k nowhere)) None (lt-ltb k (length xs) l)))
+    (λ past. slice_get_past xs k past ∙ sym (cond-false (ltb k (length xs)) (Some (get_or xs k nowhere)) None (le-ltb k (length xs) past)))
+    (cases_lt k (length xs))
 
-pub nth-move : (xs : List ℕ) (k t : ℕ) → Some t ≡ slice_get xs k → Some t ≡ move xs k
-nth-move xs k t e =
-    let p = nth-at xs k t e in
-    sym (cond-true (ltb k (length xs)) (Some (get_or xs k nowhere)) None (lt-ltb k (length xs) p.0) ∙ ap Some (get_or_default xs k nowhere 0 p.0 ∙ p.1))
+-- each class has the facts and the row of one of its components, and past them the tables are blank
+pub record Sketched (F : Found) (S : Rounds) (rows : List Set) (facts : List ℕ) (moves : List Set) : Type 0 where
+  pub taken : (c : ℕ) → c < S.partition.classes →
+      (k : ℕ) × (k < F.components) × (at S.partition.class k ≡ c) × (at facts c ≡ at F.facts k) × (set_at moves c ≡ set_at rows k)
+  pub blank_facts : (c : ℕ) → S.partition.classes ≤ c → at facts c ≡ 0
+  pub blank_moves : (c : ℕ) → S.partition.classes ≤ c → set_at moves c ≡ none
 
--- the classes below n are drawn, each from one of its components, and the others are blank
-pub record Sketched (F : Found) (S : Rounds) (rows : List Set) (facts : List ℕ) (moves : List Set) (n : ℕ) : Type 0 where
-  pub facts_long : length facts ≡ 128
-  pub moves_long : length moves ≡ 128
-  pub taken : (c : ℕ) → c < n →
-      (k : ℕ) × (k < F.components) × (at S.class k ≡ c) × (at facts c ≡ at F.facts k) × (set_at moves c ≡ set_at rows k)
-  pub blank_facts : (c : ℕ) → n ≤ c → at facts c ≡ 0
-  pub blank_moves : (c : ℕ) → n ≤ c → set_at moves c ≡ none
+module _ (F : Found) (S : Rounds) (rows : List Set) (facts : List ℕ) (moves : List Set) (B : Bounded F S) (K : Sketched F S rows facts moves) where
+  pub sketched_within : (s a : ℕ) → F.words ≤ a → words_of (at facts s) a ≡ false
+  sketched_within s a past = ⊎_elim
+      (λ l. let p = K.taken s l in ap (λ x. words_of x a) p.3 ∙ B.within p.0 p.1 a past)
+      (λ l. ap (λ x. words_of x a) (K.blank_facts s l) ∙ no_words a)
+      (cases_lt s S.partition.classes)
 
-module _ (F : Found) (S : Rounds) (rows : List Set) where
-  pub sketched_more : (facts : List ℕ) (moves : List Set) (n k : ℕ) → n < 128 → k < F.components → at S.class k ≡ n →
-      Sketched F S rows facts moves n → Sketched F S rows (set facts n (at F.facts k)) (set moves n (set_at rows k)) (n + 1)
-  sketched_more facts moves n k low h e K =
-      let lf = K.facts_long in
-      let lm = K.moves_long in
-      record {
-        facts_long = length-set facts n (at F.facts k) ∙ lf;
-        moves_long = length-set moves n (set_at rows k) ∙ lm;
-        taken = λ c l. ⊎_elim
-            (λ same. (
-              k,
-              h,
-              e ∙ sym same,
-              ap (at (set facts n (at F.facts k))) same ∙ get_or-set_same facts n (at F.facts k) 0 (omega arith),
-              ap (set_at (set moves n (set_at rows k))) same ∙ get_or-set_same moves n (set_at rows k) none (omega arith),
-            ))
-            (λ other.
-            let p = K.taken c (omega arith) in
-            (p.0, p.1, p.2, get_or-set_other facts n c (at F.facts k) 0 other ∙ p.3, get_or-set_other moves n c (set_at rows k) none other ∙ p.4))
-            (cases_eq c n);
-        blank_facts = λ c l. get_or-set_other facts n c (at F.facts k) 0 (omega arith) ∙ K.blank_facts c (omega arith);
-        blank_moves = λ c l. get_or-set_other moves n c (set_at rows k) none (omega arith) ∙ K.blank_moves c (omega arith);
-      }
-
-  module _ (B : Bounded F S) (facts : List ℕ) (moves : List Set) (K : Sketched F S rows facts moves S.classes) where
-    pub sketched_within : (s a : ℕ) → F.words ≤ a → words_of (at facts s) a ≡ false
-    sketched_within s a past = ⊎_elim
-        (λ l. let p = K.taken s l in ap (λ x. words_of x a) p.3 ∙ B.within p.0 p.1 a past)
-        (λ l. ap (λ x. words_of x a) (K.blank_facts s l) ∙ no_words a)
-        (cases_lt s S.classes)
-
-    pub sketched_lands : ((k c : ℕ) → k < F.components → In (set_at rows k) c → c < S.classes) → (s j : ℕ) → In (set_at moves s) j → j < S.classes
-    sketched_lands low s j h = ⊎_elim
-        (λ l. let p = K.taken s l in low p.0 j p.1 (subst (λ x. In x j) p.4 h))
-        (λ l. absurd (none_in j (subst (λ x. In x j) (K.blank_moves s l) h)))
-        (cases_lt s S.classes)
+  pub sketched_lands : ((k c : ℕ) → k < F.components → In (set_at rows k) c → c < S.partition.classes) → (s j : ℕ) → In (set_at moves s) j → j < S.partition.classes
+  sketched_lands low s j h = ⊎_elim
+      (λ l. let p = K.taken s l in low p.0 j p.1 (subst (λ x. In x j) p.4 h))
+      (λ l. absurd (none_in j (subst (λ x. In x j) (K.blank_moves s l) h)))
+      (cases_lt s S.partition.classes)
 
 -- what is ahead are classes
-pub outlook_low : (F : Found) (S : Rounds) → Bounded F S → (k c : ℕ) → Outlook S.reach F.moves S.class F.components k c → c < S.classes
+pub outlook_low : (F : Found) (S : Rounds) → Bounded F S → (k c : ℕ) → Outlook S.reach F.moves S.partition k c → c < S.partition.classes
 outlook_low F S B k c o =
     let to : ℕ = o.3.0 in
-    subst (λ x. x < S.classes) o.3.3 (B.low to (B.moves o.0 to o.1 o.3.1))
+    let same = B.items in
+    let low = S.partition.low to (let l = B.moves o.0 to (let h = o.1 in omega arith) o.3.1 in omega arith) in
+    subst (λ x. x < S.partition.classes) o.3.3 low
 
 -- a move of a filled model is a member of its set
 pub filled-move : (n : ℕ) (moves : List Set) → n ≤ 128 → (i j : ℕ) → i < n → j < n → Move (filled_frame n moves) i j ↔ In (set_at moves i) j
@@ -106,16 +81,22 @@ filled_rising n moves i h =
     subst Rising (sym (cond-true (ltb i n) row [] (lt-ltb i n h))) (λ k l. members_rise (set_at moves i) k nowhere l)
 
 module _ (M : Kripke) (r : ℕ) (F : Found) (S : Rounds) (A : Tabled M r F S) (ended : S.settled ≡ true) (rows : List Set)
-    (tells : (k : ℕ) → k < F.components → (c : ℕ) → In (set_at rows k) c ↔ Outlook S.reach F.moves S.class F.components k c)
+    (tells : (k : ℕ) → k < F.components → (c : ℕ) → In (set_at rows k) c ↔ Outlook S.reach F.moves S.partition k c)
     (x : Reduced) (D : Drawn F S rows x) where
   O : Surveyed M F
   O = A.surveyed
+
+  K : Components M.frame (Alike M) (part F) S.partition.len
+  K = subst (λ n. Components M.frame (Alike M) (part F) n) (sym A.items) O.components
+
+  step : (k l : ℕ) → k < S.partition.len → In (set_at F.moves k) l ↔ Passes M.frame (part F) k l
+  step k l h = O.moves k l (subst (λ n. k < n) A.items h)
 
   abbrev c : ℕ → ℕ
   c = class_of F S
 
   abbrev m : ℕ
-  m = S.classes
+  m = S.partition.classes
 
   -- a state of the component that class i was drawn from
   abbrev Voice : ℕ → ℕ → Type 0
@@ -125,14 +106,14 @@ module _ (M : Kripke) (r : ℕ) (F : Found) (S : Rounds) (A : Tabled M r F S) (e
   voice = chosen m Voice (λ i h.
       let p = D.taken i h in
       let s = O.components.ranked.member p.0 p.1 in
-      (s.0, (s.1, ap (at S.class) s.2 ∙ p.2, p.3 ∙ ap (at F.facts) (sym s.2), p.4 ∙ ap (set_at rows) (sym s.2))))
+      (s.0, (s.1, ap (at S.partition.class) s.2 ∙ p.2, p.3 ∙ ap (at F.facts) (sym s.2), p.4 ∙ ap (set_at rows) (sym s.2))))
 
   below : (s : ℕ) → s < M.frame.size → part F s < F.components
   below = O.components.ranked.below
 
   -- what is ahead of a state's component, from the row of its class
   row_out : (i j s : ℕ) → i < m → j < m → Voice i s →
-      Move (meaning x).frame i j ↔ Outlook S.reach F.moves S.class F.components (part F s) j
+      Move (meaning x).frame i j ↔ Outlook S.reach F.moves S.partition (part F s) j
   row_out i j s h k v =
       let n = D.states in
       let w = filled-move x.states x.moves x.few i j (omega arith) (omega arith) in
@@ -161,22 +142,22 @@ module _ (M : Kripke) (r : ℕ) (F : Found) (S : Rounds) (A : Tabled M r F S) (e
         let s = voice.0 i in
         let v = voice.1 i h in
         let w = row_out i j s h k v in (
-          (λ p. out_next M O.formed (part F) F.components O.components r (at S.class) A.classes.same (On S.reach) A.reach
-              (λ k. In (set_at F.moves k)) O.moves s j v.0 (λ e. other (e ∙ v.1)) (w.0 p)),
-          (λ q. w.1 (subst (Outlook S.reach F.moves S.class F.components (part F s)) q.2
-              (next_out M O.formed (part F) F.components O.components r (at S.class) A.classes.same (On S.reach) A.reach
-              (λ k. In (set_at F.moves k)) O.moves s q.0 v.0 q.1))),
+          (λ p. out_next M O.formed (part F) S.partition.len K r (at S.partition.class) A.classes.same (On S.reach) A.reach
+              (λ k. In (set_at F.moves k)) step s j v.0 (λ e. other (e ∙ v.1)) (w.0 p)),
+          (λ q. w.1 (subst (Outlook S.reach F.moves S.partition (part F s)) q.2
+              (next_out M O.formed (part F) S.partition.len K r (at S.partition.class) A.classes.same (On S.reach) A.reach
+              (λ k. In (set_at F.moves k)) step s q.0 v.0 q.1))),
         );
     turns = λ i h.
         let s = voice.0 i in
         let v = voice.1 i h in
         let w = row_out i i s h h v in (
-          (λ p. out_loop M O.formed (part F) F.components O.components r (at S.class) A.classes.same (On S.reach) A.reach
-              (λ k. In (set_at F.moves k)) O.moves s v.0
-              (subst (Outlook S.reach F.moves S.class F.components (part F s)) (sym v.1) (w.0 p))),
-          (λ l. w.1 (subst (Outlook S.reach F.moves S.class F.components (part F s)) v.1
-              (loop_out M O.formed (part F) F.components O.components r (at S.class) A.classes.same (On S.reach) A.reach
-              (λ k. In (set_at F.moves k)) O.moves s v.0 l))),
+          (λ p. out_loop M O.formed (part F) S.partition.len K r (at S.partition.class) A.classes.same (On S.reach) A.reach
+              (λ k. In (set_at F.moves k)) step s v.0
+              (subst (Outlook S.reach F.moves S.partition (part F s)) (sym v.1) (w.0 p))),
+          (λ l. w.1 (subst (Outlook S.reach F.moves S.partition (part F s)) v.1
+              (loop_out M O.formed (part F) S.partition.len K r (at S.partition.class) A.classes.same (On S.reach) A.reach
+              (λ k. In (set_at F.moves k)) step s v.0 l))),
         );
     rising = λ i h. let n = D.states in filled_rising x.states x.moves i (omega arith);
     lands = lands;

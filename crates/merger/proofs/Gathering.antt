@@ -1,21 +1,31 @@
 -- What is in the sets of the components that a row marks, gathered along the row; and marks cleared.
-use Rattle.std.proofs.Common.{◌≡◌, ℕ, ◌+◌, ◌<◌, ◌≤◌, min, ◌⊎◌, ◌↔◌, List, [], length, get_or, set, sym, refl, ap, ◌∙◌, subst, inl, inr, ⊎_elim, arith}
+use Rattle.std.proofs.Common.{◌≡◌, ℕ, zero, suc, ◌+◌, ◌*◌, ◌<◌, ◌≤◌, min, ◌⊎◌, ◌↔◌, List, [], length, get_or, take, drop, set, sym, ap, ◌∙◌, subst, inl, inr, ⊎_elim, arith}
 use Rattle.std.proofs.lemmas.Bool.{cases_eq, cases_lt}
-use Rattle.std.proofs.lemmas.List.{get_or-set_same, get_or-set_other}
+use Rattle.std.proofs.lemmas.List.{get_or-take, get_or-drop, get_or-set_other}
+use Rattle.std.specs.Simd.{first_chunks}
 use Rattle.sets.specs.declared.Set.{Set}
-use Rattle.sets.specs.Sets.{In, none, Splits}
+use Rattle.sets.specs.Sets.{In, none}
 use Rattle.sets.proofs.Bits.{none_in}
-use Rattle.merger.specs.Grids.{at, set_at, On, Kept}
+use Rattle.merger.specs.Grids.{at, set_at}
+use Rattle.merger.proofs.Blank.{after_set}
 
--- what holds of eight numbers from f on
-pub eight : (P : ℕ → Type 0) (f : ℕ) → P f → P (f + 1) → P (f + 2) → P (f + 3) → P (f + 4) → P (f + 5) → P (f + 6) → P (f + 7) →
-    (j : ℕ) → f ≤ j → j < f + 8 → P j
-eight P f p0 p1 p2 p3 p4 p5 p6 p7 j low high =
-    at-or f p0 (λ n0. at-or (f + 1) p1 (λ n1. at-or (f + 2) p2 (λ n2. at-or (f + 3) p3 (λ n3.
-    at-or (f + 4) p4 (λ n4. at-or (f + 5) p5 (λ n5. at-or (f + 6) p6 (λ n6. at-or (f + 7) p7 (λ n7. absurd (omega arith)))))))))
+-- what holds of the first eight numbers
+pub eight : (P : ℕ → Type 0) → P 0 → P 1 → P 2 → P 3 → P 4 → P 5 → P 6 → P 7 → (j : ℕ) → j < 8 → P j
+eight P p0 p1 p2 p3 p4 p5 p6 p7 j low =
+    at-or 0 p0 (λ n0. at-or 1 p1 (λ n1. at-or 2 p2 (λ n2. at-or 3 p3 (λ n3.
+    at-or 4 p4 (λ n4. at-or 5 p5 (λ n5. at-or 6 p6 (λ n6. at-or 7 p7 (λ n7. absurd (omega arith)))))))))
   where
     at-or : (i : ℕ) → P i → ((j ≡ i → ⊥) → P j) → P j
     at-or i p else' = ⊎_elim (λ e. subst P (sym e) p) else' (cases_eq j i)
+
+-- place i of chunk b
+in-chunk : (n k : ℕ) (row : List ℕ) (b i : ℕ) → b < k → i < n → at (get_or (first_chunks n k row) b []) i ≡ at row (b * n + i)
+in-chunk n zero row b i h l = absurd (omega arith)
+in-chunk n (suc k) row zero i h l = get_or-take n row i 0 l ∙ ap (at row) (omega arith)
+in-chunk n (suc k) row (suc b) i h l = in-chunk n k (drop n row) b i (omega arith) l ∙ get_or-drop n row (b * n + i) 0 ∙ ap (at row) (omega arith)
+
+pub in_chunks : (n k m : ℕ) (row : List ℕ) (b i : ℕ) → b < m → b < k → i < n → at (get_or (take m (first_chunks n k row)) b []) i ≡ at row (b * n + i)
+in_chunks n k m row b i h l low = ap (λ x. at x i) (get_or-take m (first_chunks n k row) b [] h) ∙ in-chunk n k row b i l low
 
 -- all has what is in the sets of the marked components below n
 abbrev pub Gathered : Set → List ℕ → List Set → ℕ → ℕ → Type 0
@@ -96,48 +106,18 @@ module _ (row : List ℕ) (sets : List Set) (count : ℕ) where
 abbrev pub Cleared : List ℕ → List ℕ → Set → Set → Type 0
 Cleared row row' gone left = (l : ℕ) → (at row' l ≡ 1) ↔ ((at row l ≡ 1) × (In gone l → In left l))
 
-module _ (row : List ℕ) (gone : Set) where
-  pub cleared_none : Cleared row row gone gone
-  cleared_none l = ((λ e. (e, λ h. h)), (λ p. p.0))
-
-  pub cleared_more : (row' : List ℕ) (left : Set) (k : ℕ) (rest : Set) → ((l : ℕ) → In left l → In gone l) → k < length row' →
-      Cleared row row' gone left → Splits left k rest → Cleared row (set row' k 0) gone rest
-  cleared_more row' left k rest inside room C S l = ⊎_elim
-      (λ same.
-      let zero_there : at (set row' k 0) l ≡ 0 = ap (at (set row' k 0)) same ∙ get_or-set_same row' k 0 0 room in (
-        (λ e. absurd (omega arith)),
-        (λ p. absurd (((S.others l).0 (p.1 (inside l (subst (λ i. In left i) (sym same) S.has)))).1 same)),
-      ))
-      (λ other.
-      let as_was : at (set row' k 0) l ≡ at row' l = get_or-set_other row' k l 0 0 other in (
-        (λ e. let p = (C l).0 (sym as_was ∙ e) in (p.0, λ h. (S.others l).1 (p.1 h, other))),
-        (λ p. as_was ∙ (C l).1 (p.0, λ h. ((S.others l).0 (p.1 h)).0)),
-      ))
-      (cases_eq l k)
-
-  pub cleared_all : (row' : List ℕ) (left : Set) → ((l : ℕ) → In left l → ⊥) → Cleared row row' gone left → Kept row row' gone
-  cleared_all row' left empty C l = (
-    (λ e. let p = (C l).0 e in (p.0, λ h. empty l (p.1 h))),
-    (λ p. (C l).1 (p.0, λ h. absurd (p.1 h))),
-  )
-
 -- the rows below n have the marks of before that Stays lets be, and the others are as they were
-pub record Cut (reach reach' : List (List ℕ)) (Stays : ℕ → ℕ → Type 0) (n : ℕ) : Type 0 where
-  pub done : (k l : ℕ) → k < n → On reach' k l ↔ (On reach k l × Stays k l)
-  pub rest : (k : ℕ) → n ≤ k → get_or reach' k [] ≡ get_or reach k []
+pub record Cut (rows rows' : List (List ℕ)) (Stays : ℕ → ℕ → Type 0) (n : ℕ) : Type 0 where
+  pub done : (k l : ℕ) → k < n → (at (get_or rows' k []) l ≡ 1) ↔ ((at (get_or rows k []) l ≡ 1) × Stays k l)
+  pub rest : (k : ℕ) → n ≤ k → get_or rows' k [] ≡ get_or rows k []
 
-module _ (reach : List (List ℕ)) (Stays : ℕ → ℕ → Type 0) where
-  pub cut_none : Cut reach reach Stays 0
-  cut_none = record { done = λ k l h. absurd (omega arith); rest = λ k h. refl }
-
-  pub cut_more : (reach' : List (List ℕ)) (n : ℕ) (row : List ℕ) → n < length reach' → Cut reach reach' Stays n →
-      ((l : ℕ) → (at row l ≡ 1) ↔ (On reach' n l × Stays n l)) → Cut reach (set reach' n row) Stays (n + 1)
-  cut_more reach' n row room C kept = record {
-    done = λ k l h. ⊎_elim
-        (λ same. subst (λ i. On (set reach' n row) i l ↔ (On reach i l × Stays i l)) (sym same)
-        (subst (λ r. (at r l ≡ 1) ↔ (On reach n l × Stays n l)) (sym (get_or-set_same reach' n row [] room))
-        (subst (λ r. (at row l ≡ 1) ↔ ((at r l ≡ 1) × Stays n l)) (C.rest n (omega arith)) (kept l))))
-        (λ other. subst (λ r. (at r l ≡ 1) ↔ (On reach k l × Stays k l)) (sym (get_or-set_other reach' n k row [] other)) (C.done k l (omega arith)))
-        (cases_eq k n);
-    rest = λ k h. get_or-set_other reach' n k row [] (omega arith) ∙ C.rest k (omega arith);
+module _ (rows : List (List ℕ)) (Stays : ℕ → ℕ → Type 0) where
+  pub cut_more : (rows' : List (List ℕ)) (n : ℕ) (row : List ℕ) → n < length rows' → Cut rows rows' Stays n →
+      ((l : ℕ) → (at row l ≡ 1) ↔ ((at (get_or rows' n []) l ≡ 1) × Stays n l)) → Cut rows (set rows' n row) Stays (n + 1)
+  cut_more rows' n row room C kept = record {
+    done = λ k l h. after_set [] rows' n row room (λ k r. k < n + 1 → (at r l ≡ 1) ↔ ((at (get_or rows k []) l ≡ 1) × Stays k l))
+        (λ _. subst (λ r. (at row l ≡ 1) ↔ ((at r l ≡ 1) × Stays n l)) (C.rest n (omega arith)) (kept l))
+        (λ k other h. C.done k l (omega arith))
+        k h;
+    rest = λ k h. get_or-set_other rows' n k row [] (omega arith) ∙ C.rest k (omega arith);
   }

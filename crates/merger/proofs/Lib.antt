@@ -1,6 +1,7 @@
 pub mod Blank
 pub mod Gathering
 pub mod Looking
+pub mod Joining
 pub mod Placing
 pub mod Advancing
 pub mod Moving

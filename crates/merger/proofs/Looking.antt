@@ -1,11 +1,13 @@
 -- The classes one move ahead of a component.
-use Rattle.std.proofs.Common.{◌≡◌, ℕ, ◌+◌, ◌<◌, Bool, true, ◌⊎◌, ◌↔◌, List, length, set, Decides, sym, refl, ap, ◌∙◌, subst, inl, inr, ⊎_elim, arith}
+use Rattle.std.proofs.Common.{◌≡◌, ℕ, ◌+◌, ◌<◌, Bool, true, ◌⊎◌, ◌↔◌, List, Decides, sym, refl, ap, ◌∙◌, subst, inl, inr, ⊎_elim, arith}
 use Rattle.std.proofs.lemmas.Bool.{cases_eq}
-use Rattle.std.proofs.lemmas.List.{get_or-set_same, get_or-set_other}
 use Rattle.sets.specs.declared.Set.{Set}
 use Rattle.sets.specs.Sets.{In, none, Splits}
 use Rattle.sets.proofs.Bits.{in_dec, none_in}
-use Rattle.merger.specs.Grids.{at, set_at, On, Groups, Ahead, Several, Outlook}
+use Rattle.merger.specs.declared.partition.Partition.{Partition}
+use Rattle.merger.specs.declared.reach.Reach.{Reach}
+use Rattle.merger.specs.Reaching.{On, Outlook}
+use Rattle.merger.specs.Grids.{at, set_at, Ahead, Several}
 
 -- all has the classes of what is in leaving and not in left, and of nothing else
 pub record Looked (class : List ℕ) (leaving all left : Set) : Type 0 where
@@ -17,18 +19,18 @@ module _ (class : List ℕ) (leaving : Set) where
   pub looked_none : Looked class leaving none leaving
   looked_none = record { sound = λ c h. absurd (none_in c h); whole = λ to h. inl h; inside = λ to h. h }
 
-  -- one class more, with all that moves into it
-  pub looked_more : (all left : Set) (to : ℕ) (rest all' left' group : Set) → at class to < 128 → ((l : ℕ) → In group l → at class l ≡ at class to) →
+  -- one class more, with all of its items
+  pub looked_more : (all left : Set) (to one : ℕ) (rest all' left' group : Set) → one ≡ at class to → one < 128 → ((l : ℕ) → In group l → at class l ≡ one) →
       Looked class leaving all left → Splits left to rest →
-      ((j : ℕ) → In all' j ↔ (In all j ⊎ ((j ≡ at class to) × (at class to < 128)))) →
+      ((j : ℕ) → In all' j ↔ (In all j ⊎ ((j ≡ one) × (one < 128)))) →
       ((j : ℕ) → In left' j ↔ (In rest j × (In group j → ⊥))) → Looked class leaving all' left'
-  looked_more all left to rest all' left' group low same L S with' minus = record {
-    sound = λ c h. ⊎_elim (λ was. L.sound c was) (λ e. (to, L.inside to S.has, sym e.0)) ((with' c).0 h);
+  looked_more all left to one rest all' left' group is low same L S with' minus = record {
+    sound = λ c h. ⊎_elim (λ was. L.sound c was) (λ e. (to, L.inside to S.has, sym is ∙ sym e.0)) ((with' c).0 h);
     whole = λ l h. ⊎_elim
         (λ in_left. ⊎_elim
         (λ in_group. inr ((with' (at class l)).1 (inr (same l in_group, low))))
         (λ out. ⊎_elim
-        (λ e. inr ((with' (at class l)).1 (inr (ap (at class) e, low))))
+        (λ e. inr ((with' (at class l)).1 (inr (ap (at class) e ∙ sym is, low))))
         (λ other. inl ((minus l).1 ((S.others l).1 (in_left, other), out)))
         (cases_eq l to))
         (in_dec group.bits l))
@@ -45,55 +47,42 @@ module _ (class : List ℕ) (leaving : Set) where
   )
 
 -- the moves that leave the class, and those that stay in the component
-module _ (members : List Set) (class : List ℕ) (count from : ℕ) (G : Groups members class count) (low : from < count) (moves leaving others : Set)
-    (inside : (to : ℕ) → In moves to → to < count)
-    (leaves : (j : ℕ) → In leaving j ↔ (In moves j × (In (set_at members (at class from)) j → ⊥)))
-    (tells : (c : ℕ) → In others c ↔ ((to : ℕ) × In leaving to × (at class to ≡ c))) where
-  away : (to : ℕ) → In moves to → (at class to ≡ at class from → ⊥) → In leaving to
-  away to h other = (leaves to).1 (h, λ g. other ((G.each (at class from) to).0 g).1)
+module _ (P : Partition) (from : ℕ) (low : from < P.len) (moves leaving others group : Set)
+    (inside : (to : ℕ) → In moves to → to < P.len)
+    (mates : (j : ℕ) → In group j ↔ ((j < P.len) × (at P.class j ≡ at P.class from)))
+    (leaves : (j : ℕ) → In leaving j ↔ (In moves j × (In group j → ⊥)))
+    (tells : (c : ℕ) → In others c ↔ ((to : ℕ) × In leaving to × (at P.class to ≡ c))) where
+  away : (to : ℕ) → In moves to → (at P.class to ≡ at P.class from → ⊥) → In leaving to
+  away to h other = (leaves to).1 (h, λ g. other ((mates to).0 g).1)
 
-  left-away : (to : ℕ) → In leaving to → at class to ≡ at class from → ⊥
-  left-away to h e = let p = (leaves to).0 h in p.1 ((G.each (at class from) to).1 (inside to p.0, e))
+  left-away : (to : ℕ) → In leaving to → at P.class to ≡ at P.class from → ⊥
+  left-away to h e = let p = (leaves to).0 h in p.1 ((mates to).1 (inside to p.0, e))
 
-  pub ahead_all : (all : Set) (cyclic : Bool) → Decides cyclic (In moves from) →
-      ((c : ℕ) → In all c ↔ (In others c ⊎ ((c ≡ at class from) × (at class from < 128) × (cyclic ≡ true)))) →
-      (c : ℕ) → In all c ↔ Ahead (In moves) (at class) from c
-  ahead_all all cyclic own joined c = (
+  pub ahead_all : (all : Set) (own : ℕ) (cyclic : Bool) → own ≡ at P.class from → Decides cyclic (In moves from) →
+      ((c : ℕ) → In all c ↔ (In others c ⊎ ((c ≡ own) × (own < 128) × (cyclic ≡ true)))) →
+      (c : ℕ) → In all c ↔ Ahead (In moves) (at P.class) from c
+  ahead_all all own cyclic is turns joined c = (
     (λ h. ⊎_elim
         (λ o. let p = (tells c).0 o in (p.0, ((leaves p.0).0 p.1).0, inl (left-away p.0 p.1), p.2))
-        (λ e. (from, own.0 e.2, inr refl, sym e.0))
+        (λ e. (from, turns.0 e.2, inr refl, sym is ∙ sym e.0))
         ((joined c).0 h)),
     (λ p. (joined c).1 (elim p.2 [
       | inl other ↦ inl ((tells c).1 (p.0, away p.0 p.1 other, p.3))
-      | inr same ↦ inr (sym p.3 ∙ ap (at class) same, G.low from low, own.1 (subst (λ i. In moves i) same p.1))
+      | inr same ↦ inr (
+        sym p.3 ∙ ap (at P.class) same ∙ sym is,
+        (let l = P.groups.low from low in omega arith),
+        turns.1 (subst (λ i. In moves i) same p.1),
+      )
     ])),
   )
 
--- of what is wanted, all that is not left stands in the table as P has it
-abbrev pub Along : (ℕ → Set → Type 0) → Set → Set → List Set → Type 0
-Along P wanted left table = (k : ℕ) → In wanted k → In left k ⊎ P k (set_at table k)
-
-module _ (P : ℕ → Set → Type 0) (wanted : Set) where
-  pub along_more : (left : Set) (k : ℕ) (rest x : Set) (table : List Set) → k < length table → Along P wanted left table → Splits left k rest → P k x →
-      Along P wanted rest (set table k x)
-  along_more left k rest x table room A S p j h = ⊎_elim
-      (λ same. inr (subst (λ i. P i (set_at (set table k x) i)) (sym same) (subst (P k) (sym (get_or-set_same table k x none room)) p)))
-      (λ other. ⊎_elim
-      (λ in_left. inl ((S.others j).1 (in_left, other)))
-      (λ done. inr (subst (P j) (sym (get_or-set_other table k j x none other)) done))
-      (A j h))
-      (cases_eq j k)
-
-  pub along_all : (left : Set) (table : List Set) → ((l : ℕ) → In left l → ⊥) → Along P wanted left table → (k : ℕ) → In wanted k → P k (set_at table k)
-  along_all left table empty A k h = ⊎_elim (λ in_left. absurd (empty k in_left)) (λ done. done) (A k h)
-
 -- what is ahead of each component, seen from what k reaches
-pub outlook_from : (reach : List (List ℕ)) (moves ahead : List Set) (class : List ℕ) (count : ℕ) (wanted x : Set) (k : ℕ) → In wanted k →
-    ((k l : ℕ) → In wanted k → l < count → On reach k l → In wanted l) →
-    ((k : ℕ) → In wanted k → (c : ℕ) → In (set_at ahead k) c ↔ Ahead (In (set_at moves k)) (at class) k c) →
-    ((c : ℕ) → In x c ↔ ((l : ℕ) × (l < count) × On reach k l × In (set_at ahead l) c)) →
-    (c : ℕ) → In x c ↔ Outlook reach moves class count k c
-outlook_from reach moves ahead class count wanted x k h closed tells union c = (
+pub outlook_from : (reach : Reach) (moves ahead : List Set) (P : Partition) (wanted x : Set) (k : ℕ) → In wanted k →
+    ((k l : ℕ) → In wanted k → l < P.len → On reach k l → In wanted l) →
+    ((k : ℕ) → In wanted k → (c : ℕ) → In (set_at ahead k) c ↔ Ahead (In (set_at moves k)) (at P.class) k c) →
+    ((c : ℕ) → In x c ↔ ((l : ℕ) × (l < P.len) × On reach k l × In (set_at ahead l) c)) →
+    (c : ℕ) → In x c ↔ Outlook reach moves P k c
+outlook_from reach moves ahead P wanted x k h closed tells union c = (
   (λ o. let p = (union c).0 o in (p.0, p.1, p.2, (tells p.0 (closed k p.0 h p.1 p.2) c).0 p.3)),
   (λ p. (union c).1 (p.0, p.1, p.2, (tells p.0 (closed k p.0 h p.1 p.2) c).1 p.3)),
 )

@@ -37,8 +37,8 @@ module _ (M : Kripke) (r : ℕ) (F : Found) (S : Rounds) (A : Tabled M r F S) wh
   O : Surveyed M F
   O = A.surveyed
 
-  pub tabled_promise : Promise M r (class_of F S) S.classes
-  tabled_promise = promise M O.formed O.admitted.1 r (class_of F S) S.classes A.classes
+  pub tabled_promise : Promise M r (class_of F S) S.partition.classes
+  tabled_promise = promise M O.formed O.admitted.1 r (class_of F S) S.partition.classes A.classes
 
   -- the flag tells whether the settling round is made
   pub tabled_settled : Decides S.settled (Settles M r)
@@ -49,7 +49,7 @@ module _ (M : Kripke) (r : ℕ) (F : Found) (S : Rounds) (A : Tabled M r F S) wh
 
   -- whatever numbers the classes by first member gives the class of the tables
   pub tabled_class : (f : ℕ → ℕ) (m : ℕ) → Classes M r f m → (s : ℕ) → s < M.frame.size → class_of F S s ≡ f s
-  tabled_class f m N s h = numbering_same (Related M r) M.frame.size S.classes m (class_of F S) f A.classes N s h
+  tabled_class f m N s h = numbering_same (Related M r) M.frame.size S.partition.classes m (class_of F S) f A.classes N s h
 
   -- whether two states have one class
   pub tabled_together : (s t : ℕ) → s < M.frame.size → t < M.frame.size →

@@ -3,9 +3,9 @@ use Rattle.std.proofs.Common.{◌≡◌, ℕ, suc, ◌+◌, ◌<◌, ◌≤◌, 
 use mathlib.Core.Logic.{∥∥₁_elim, ∥∥₁_map}
 use mathlib.Core.HLevel.{⊥_prop}
 use Rattle.std.proofs.lemmas.Bool.{cases_Bool, cases_eq, both_ways}
-use Rattle.sets.specs.Sets.{bit, In}
-use Rattle.sets.proofs.Bits.{none_in, On as On-bit}
-use Rattle.kripke.specs.Models.{Kripke}
+use Rattle.sets.specs.Sets.{In}
+use Rattle.kripke.specs.Models.{Kripke, Alike}
+use Rattle.kripke.specs.Components.{Components}
 use Rattle.kripke.specs.Relation.{Related, Settles}
 use Rattle.kripke.specs.Numbering.{Numbering}
 use Rattle.kripke.proofs.Ranking.{ranked_two, ranked_few}
@@ -14,8 +14,9 @@ use Rattle.kripke.proofs.Settling.{same_stable, unsettled_next}
 use Rattle.kripke.proofs.Claims.{rounds_settle}
 use Rattle.merger.specs.declared.tables.Found.{Found}
 use Rattle.merger.specs.declared.tables.Rounds.{Rounds}
-use Rattle.merger.specs.Grids.{at, set_at, On}
-use Rattle.merger.specs.Tables.{part, class_of, words_of, Bounded, Advanced}
+use Rattle.merger.specs.Grids.{at, set_at}
+use Rattle.merger.specs.Reaching.{On}
+use Rattle.merger.specs.Tables.{part, class_of, words_of, Passes, Bounded, Advanced}
 use Rattle.merger.specs.Analysed.{Unsettled, Surveyed, Tabled}
 use Rattle.merger.proofs.Moving.{round_parts}
 
@@ -51,6 +52,12 @@ module _ (M : Kripke) (r : ℕ) (F : Found) (S : Rounds) (A : Tabled M r F S) wh
   pub below : (s : ℕ) → s < M.frame.size → part F s < F.components
   below = O.components.ranked.below
 
+  K : Components M.frame (Alike M) (part F) S.partition.len
+  K = subst (λ n. Components M.frame (Alike M) (part F) n) (sym A.items) O.components
+
+  step : (k l : ℕ) → k < S.partition.len → In (set_at F.moves k) l ↔ Passes M.frame (part F) k l
+  step k l h = O.moves k l (subst (λ n. k < n) A.items h)
+
   -- a component has a state
   pub state_of : (k : ℕ) → k < F.components → (s : ℕ) × (s < M.frame.size) × (part F s ≡ k)
   state_of = O.components.ranked.member
@@ -59,22 +66,15 @@ module _ (M : Kripke) (r : ℕ) (F : Found) (S : Rounds) (A : Tabled M r F S) wh
   pub tabled_bounded : Bounded F S
   tabled_bounded =
       let few = ranked_few M.frame.size F.components (part F) O.components.ranked in
-      let some = ranked_few M.frame.size S.classes (class_of F S) A.classes.ranked in
+      let some = ranked_few M.frame.size S.partition.classes (class_of F S) A.classes.ranked in
       let small = O.admitted.0.1 in
       let e = O.states in
       let z = settling M F O in
       record {
         wide = omega arith;
         parts = λ s h. below s (omega arith);
-        few = omega arith;
-        most = omega arith;
         room = let m = A.made in ⊎_elim (λ p. omega (arith, p.1, z.1)) (λ p. omega (arith, p.1, z.1)) (stands_at M r z.0 F S A z.2);
-        groups = A.groups;
-        low = λ k h. let s = state_of k h in subst (λ x. at S.class x < S.classes) s.2 (A.classes.ranked.below s.0 s.1);
-        some = λ c h empty.
-            let s = A.classes.ranked.member c h in
-            let on = (A.groups.each c (part F s.0)).1 (below s.0 s.1, s.2) in
-            none_in (part F s.0) (subst (λ (b : ℕ). On-bit b (part F s.0)) empty on);
+        items = A.items;
         moves = λ k l h m. let p = (O.moves k l h).0 m in subst (λ i. i < F.components) p.4 (below p.1 p.2.2);
         spoken = let w = O.words in let f = O.formed.labels.few_words in omega arith;
         within = λ k h a past.
@@ -86,20 +86,20 @@ module _ (M : Kripke) (r : ℕ) (F : Found) (S : Rounds) (A : Tabled M r F S) wh
             let t = state_of l b in
             let on = subst (λ i. On S.reach i (part F t.0)) (sym s.2) (subst (λ i. On S.reach k i) (sym t.2) o) in
             let w = st_related M.frame (Related M r) (related_equivalence M r) s.0 t.0 ((A.reach s.0 t.0 s.1 t.1).0 on) in
-            sym (ap (at S.class) s.2) ∙ (A.classes.same s.0 t.0 s.1 t.1).1 w ∙ ap (at S.class) t.2;
+            sym (ap (at S.partition.class) s.2) ∙ (A.classes.same s.0 t.0 s.1 t.1).1 w ∙ ap (at S.partition.class) t.2;
       }
 
   module _ (S' : Rounds) (going : S.settled ≡ false) (V : Advanced F S S') where
     same : (s t : ℕ) → s < M.frame.size → t < M.frame.size → (class_of F S' s ≡ class_of F S' t) ↔ Related M (suc r) s t
     same s t h k =
         let a = V.classes.same (part F s) (part F t) (below s h) (below t k) in
-        let b = round_parts M O.formed (part F) F.components O.components r (at S.class) A.classes.same
-        (On S.reach) A.reach (λ k. In (set_at F.moves k)) O.moves s t h k in
+        let b = round_parts M O.formed (part F) S.partition.len K r (at S.partition.class) A.classes.same
+        (On S.reach) A.reach (λ k. In (set_at F.moves k)) step s t h k in
         ((λ e. b.1 (a.0 e)), (λ p. a.1 (b.0 p)))
 
-    numbers : Numbering (Related M (suc r)) M.frame.size (class_of F S') S'.classes
+    numbers : Numbering (Related M (suc r)) M.frame.size (class_of F S') S'.partition.classes
     numbers = record {
-      ranked = ranked_two M.frame.size F.components S'.classes (part F) (at S'.class) O.components.ranked V.classes.ranked;
+      ranked = ranked_two M.frame.size F.components S'.partition.classes (part F) (at S'.partition.class) O.components.ranked V.classes.ranked;
       same = same;
     }
 
@@ -109,7 +109,7 @@ module _ (M : Kripke) (r : ℕ) (F : Found) (S : Rounds) (A : Tabled M r F S) wh
       labels = A.labels;
       made = V.made ∙ ap (λ x. x + 1) A.made ∙ omega arith;
       classes = numbers;
-      groups = V.groups;
+      items = V.items;
       reach = λ s t h k.
           let n = V.reach (part F s) (part F t) (below s h) (below t k) in
           let w = st_narrows M r s t in
@@ -118,9 +118,9 @@ module _ (M : Kripke) (r : ℕ) (F : Found) (S : Rounds) (A : Tabled M r F S) wh
             (λ e. let p = w.0 e in n.1 (o.1 p.0, (same s t h k).1 p.1)),
           );
       ended = λ e.
-          (r, refl, same_stable M r S.classes S'.classes (class_of F S) (class_of F S') A.classes numbers (sym (V.ends e)), A.going going);
+          (r, refl, same_stable M r S.partition.classes S'.partition.classes (class_of F S) (class_of F S') A.classes numbers (sym (V.ends e)), A.going going);
       going = λ e.
-          unsettled_next M r S.classes S'.classes (class_of F S) (class_of F S') A.classes numbers (A.going going) (λ q. V.goes e (sym q));
+          unsettled_next M r S.partition.classes S'.partition.classes (class_of F S) (class_of F S') A.classes numbers (A.going going) (λ q. V.goes e (sym q));
     }
 
 module _ (F : Found) (S : Rounds) (meant : ∥ ((M : Kripke) × (r : ℕ) × Tabled M r F S) ∥₁) where
@@ -140,25 +140,15 @@ module _ (F : Found) (S : Rounds) (meant : ∥ ((M : Kripke) × (r : ℕ) × Tab
   meant_bounded = record {
     wide = at_most F.states 128 (λ B. B.wide);
     parts = λ s h. at_most (suc (part F s)) F.components (λ B. B.parts s h);
-    few = at_most F.components 128 (λ B. B.few);
-    most = at_most S.classes 128 (λ B. B.most);
+    items = equals S.partition.len F.components (λ B. B.items);
     room = at_most S.made 129 (λ B. B.room);
-    groups = record {
-      low = λ k h. at_most (suc (at S.class k)) 128 (λ B. B.groups.low k h);
-      each = λ c k. (
-        (λ h. (at_most (suc k) F.components (λ B. ((B.groups.each c k).0 h).0), equals (at S.class k) c (λ B. ((B.groups.each c k).0 h).1))),
-        (λ p. equals (bit (set_at S.members c).bits k) 1 (λ B. (B.groups.each c k).1 p)),
-      );
-    };
-    low = λ k h. at_most (suc (at S.class k)) S.classes (λ B. B.low k h);
-    some = λ c h empty. ∥∥₁_elim meant ⊥_prop (λ a. (tabled_bounded a.0 a.1 F S a.2).some c h empty);
     moves = λ k l h m. at_most (suc l) F.components (λ B. B.moves k l h m);
     spoken = at_most F.words 64 (λ B. B.spoken);
     within = λ k h a past. ⊎_elim
         (λ on. absurd (∥∥₁_elim meant ⊥_prop (λ x. both_ways _ ((tabled_bounded x.0 x.1 F S x.2).within k h a past) on)))
         (λ off. off)
         (cases_Bool (words_of (at F.facts k) a));
-    near = λ k l h b o. equals (at S.class k) (at S.class l) (λ B. B.near k l h b o);
+    near = λ k l h b o. equals (at S.partition.class k) (at S.partition.class l) (λ B. B.near k l h b o);
   }
 
   -- and one more round is again the analysis of a model

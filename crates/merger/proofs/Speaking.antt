@@ -1,65 +1,12 @@
--- The words of components: gathered from the first state of each, and compared as sets.
-use Rattle.std.proofs.Common.{◌≡◌, ℕ, ◌+◌, ◌/◌, ◌%◌, ◌^◌, ◌<◌, ◌≤◌, Bool, true, eqb, ltb, ◌↔◌, List, length, set, sym, ap, ◌∙◌, subst, ⊎_elim, arith}
-use Rattle.std.proofs.lemmas.Bool.{cases_eq, cases_lt, cases_Bool, both_ways, and_parts, and_from, ltb-true, lt-ltb, eqb-true, eq-eqb}
-use Rattle.std.proofs.lemmas.List.{get_or-set_same, get_or-set_other, length-set}
+-- The words of components, compared as sets.
+use Rattle.std.proofs.Common.{◌≡◌, ℕ, ◌/◌, ◌%◌, ◌^◌, ◌<◌, Bool, true, eqb, ltb, ◌↔◌, sym, ◌∙◌, ⊎_elim}
+use Rattle.std.proofs.lemmas.Bool.{cases_Bool, both_ways, and_parts, and_from, ltb-true, lt-ltb, eqb-true, eq-eqb}
 use Rattle.kripke.specs.Words.{SameWords}
-use Rattle.kripke.specs.Models.{Kripke, words_at}
 use Rattle.sets.specs.declared.Set.{Set}
 use Rattle.sets.specs.Sets.{In}
 use Rattle.sets.specs.Sets.{bit as digit}
-use Rattle.merger.specs.Grids.{at, Same}
+use Rattle.merger.specs.Grids.{Same}
 use Rattle.merger.specs.Tables.{words_of}
-use Rattle.merger.specs.Starts.{Spoken}
-
--- the components of the states below n are those below seen, and have their words
-pub record Heard (M : Kripke) (component facts : List ℕ) (seen n : ℕ) : Type 0 where
-  pub long : length facts ≡ 128
-  pub each : (k : ℕ) → k < seen → Spoken M component facts n k
-  pub all : (s : ℕ) → s < n → at component s < seen
-  pub few : seen ≤ n
-
-module _ (M : Kripke) (component facts : List ℕ) (seen n : ℕ) (H : Heard M component facts seen n) where
-  pub heard_new : (bits : ℕ) → n < 128 → at component n ≡ seen → SameWords (words_of bits) (words_at M n) → Heard M component (set facts seen bits) (seen + 1) (n + 1)
-  heard_new bits low e words =
-      let l = H.long in
-      let f = H.few in
-      record {
-        long = length-set facts seen bits ∙ l;
-        each = λ k h. ⊎_elim
-            (λ same. (
-              n,
-              omega arith,
-              e ∙ sym same,
-              λ a. ap (λ x. words_of x a) (ap (at (set facts seen bits)) same ∙ get_or-set_same facts seen bits 0 (omega arith)) ∙ words a,
-            ))
-            (λ other.
-            let p = H.each k (omega arith) in
-            (p.0, omega (arith, p.1), p.2, λ a. ap (λ x. words_of x a) (get_or-set_other facts seen k bits 0 other) ∙ p.3 a))
-            (cases_eq k seen);
-        all = λ s h. ⊎_elim
-            (λ same. let z = ap (at component) same ∙ e in omega arith)
-            (λ other. let b = H.all s (omega arith) in omega arith)
-            (cases_eq s n);
-        few = omega arith;
-      }
-
-  pub heard_old : ((s i : ℕ) → s ≤ n → i < at component s → ((t : ℕ) × (t < s) × (at component t ≡ i))) → (at component n ≡ seen → ⊥) →
-      Heard M component facts seen (n + 1)
-  heard_old order other = record {
-    long = H.long;
-    each = λ k h. let p = H.each k h in (p.0, omega (arith, p.1), p.2, p.3);
-    all = λ s h. ⊎_elim
-        (λ same. ⊎_elim
-        (λ less. subst (λ i. at component i < seen) (sym same) less)
-        (λ more.
-        let t = order n seen (omega arith) (omega (arith, other)) in
-        let b = H.all t.0 t.1 in
-        absurd (omega (arith, t.2)))
-        (cases_lt (at component n) seen))
-        (λ before. H.all s (omega arith))
-        (cases_eq s n);
-    few = let f = H.few in omega arith;
-  }
 
 -- word a is among those of a number
 words_in : (x a : ℕ) → (words_of x a ≡ true) ↔ ((a < 64) × (digit x a ≡ 1))

@@ -2,7 +2,7 @@
 use Rattle.std.proofs.Common.{◌≡◌, ℕ, zero, suc, ◌<◌, false, ltb, ◌↔◌, List, sym, refl, ap, ◌∙◌, subst, inl, inr, arith}
 use Rattle.std.proofs.lemmas.Bool.{both_ways, cond-true, lt-ltb}
 use Rattle.kripke.specs.Words.{SameWords}
-use Rattle.kripke.specs.Models.{Frame, Kripke, WellFormed, Alike}
+use Rattle.kripke.specs.Models.{Kripke, WellFormed, Alike, words_at}
 use Rattle.kripke.specs.Components.{Components}
 use Rattle.survey.specs.Gaps.{Gaps, Sized, Linked}
 use Rattle.survey.specs.declared.gaps.Gap.{Gap}
@@ -18,6 +18,7 @@ use Rattle.kripke.proofs.Rounds.{st_own, st_related, st_more, st_join, alike_equ
 use Rattle.sets.specs.Sets.{In}
 use Rattle.merger.specs.declared.tables.Found.{Found}
 use Rattle.merger.specs.declared.tables.Rounds.{Rounds}
+use Rattle.merger.specs.declared.partition.Partition.{Partition}
 use Rattle.merger.specs.Grids.{at, set_at}
 use Rattle.merger.specs.Tables.{part, class_of, words_of, Passes}
 use Rattle.merger.specs.Starts.{Inner, Spoken, Started}
@@ -32,17 +33,40 @@ spoken_words M formed component facts count K s h p a =
     let near = st_related M.frame (Alike M) (alike_equivalence M) t s (part_st M formed (at component) count K 0 t s p.1 h p.2) in
     p.3 a ∙ cond-true (ltb t M.frame.size) (M.labels.words t a) false (lt-ltb t M.frame.size p.1) ∙ near.2 a
 
--- moves taken from rows of sets are the moves of the frame
-pub linked_passes : (F : Frame) (rows : List Set) (component : List ℕ) → Linked F rows → (k l : ℕ) →
-    ((s t : ℕ) × (s < F.size) × In (set_at rows s) t × (at component s ≡ k) × (at component t ≡ l)) ↔ Passes F (at component) k l
-linked_passes F rows component L k l = (
-  (λ p. (p.0, p.1, (L.states p.0 p.2 p.1).0 p.3, p.4, p.5)),
-  (λ p. (p.0, p.1, p.2.1, (L.states p.0 p.2.1 p.1).1 p.2, p.3, p.4)),
-)
+-- P has the states in their components, as `component` numbers them
+module _ (M : Kripke) (P : Partition) (component : List ℕ) (sized : P.len ≡ M.frame.size) (same : (s : ℕ) → s < M.frame.size → at P.class s ≡ at component s) where
+  pub spoken_there : (facts : List ℕ) (s : ℕ) → s < M.frame.size → Spoken M P.class facts P.len (at P.class s) → Spoken M component facts M.frame.size (at component s)
+  spoken_there facts s h p = (
+    p.0,
+    omega (arith, p.1),
+    sym (same p.0 (omega (arith, p.1))) ∙ p.2 ∙ same s h,
+    subst (λ k. SameWords (words_of (at facts k)) (words_at M p.0)) (same s h) p.3,
+  )
+
+  -- moves taken from rows of sets are the moves of the frame
+  pub linked_passes : (rows : List Set) → Linked M.frame rows → (k l : ℕ) →
+      ((s t : ℕ) × (s < P.len) × In (set_at rows s) t × (at P.class s ≡ k) × (at P.class t ≡ l)) ↔ Passes M.frame (at component) k l
+  linked_passes rows L k l = (
+    (λ p.
+        let h : p.0 < M.frame.size = omega (arith, p.2) in
+        let m = (L.states p.0 h p.1).0 p.3 in
+        (p.0, p.1, m, sym (same p.0 h) ∙ p.4, sym (same p.1 m.2) ∙ p.5)),
+    (λ p. (
+      p.0,
+      p.1,
+      omega (arith, p.2.1),
+      (L.states p.0 p.2.1 p.1).1 p.2,
+      same p.0 p.2.1 ∙ p.3,
+      same p.1 p.2.2 ∙ p.4,
+    )),
+  )
 
 module _ (M : Kripke) (F : Found) (S : Rounds) (O : Surveyed M F) (B : Started F S) where
   below : (s : ℕ) → s < M.frame.size → part F s < F.components
   below = O.components.ranked.below
+
+  inside : (s : ℕ) → s < M.frame.size → part F s < S.partition.len
+  inside s h = subst (λ n. part F s < n) (sym B.items) (below s h)
 
   same : (s t : ℕ) → s < M.frame.size → t < M.frame.size → (class_of F S s ≡ class_of F S t) ↔ Alike M s t
   same s t h k =
@@ -52,21 +76,21 @@ module _ (M : Kripke) (F : Found) (S : Rounds) (O : Surveyed M F) (B : Started F
       )
 
   abbrev Way : ℕ → ℕ → ℕ → Type 0
-  Way n k l = Trail (Inner F.moves S.class F.components) (λ j. j < F.components) n k l
+  Way n k l = Trail (Inner F.moves S.partition) (λ j. j < F.components) n k l
 
   -- from s inside its component, and on by one inner move
-  step-st : (s k : ℕ) → s < M.frame.size → Inner F.moves S.class F.components (part F s) k →
+  step-st : (s k : ℕ) → s < M.frame.size → Inner F.moves S.partition (part F s) k →
       (t : ℕ) × (t < M.frame.size) × (part F t ≡ k) × ST M.frame (Alike M) s t
   step-st s k h p =
       elim p.3 [
         | inl e ↦ (s, h, sym e, st_own M.frame (Alike M) (alike_equivalence M) s h)
         | inr m ↦
-            let o = (O.moves (part F s) k p.0).0 m in
+            let o = (O.moves (part F s) k (below s h)).0 m in
             let u : ℕ = o.0 in
             let v : ℕ = o.1 in
             let go : Move M.frame u v = o.2 in
             let on = part_st M O.formed (part F) F.components O.components 0 s u h go.1 (sym o.3) in
-            let near = (same s v h go.2).0 (p.2 ∙ ap (at S.class) (sym o.4)) in
+            let near = (same s v h go.2).0 (p.2 ∙ ap (at S.partition.class) (sym o.4)) in
             (v, go.2, o.4, st_more M.frame (Alike M) (alike_equivalence M) s u v on go near)
       ]
 
@@ -86,23 +110,23 @@ module _ (M : Kripke) (F : Found) (S : Rounds) (O : Surveyed M F) (B : Started F
       let e = sym ((same s u h k).1 p.1) ∙ (same s v h m.2).1 (trail_first M.frame (Alike M s) n v t p.3) in (
         part F v,
         below u k,
-        (below u k, below v m.2, e, inr ((O.moves (part F u) (part F v) (below u k)).1 (u, v, m, refl, refl))),
+        (inside u k, inside v m.2, e, inr ((O.moves (part F u) (part F v) (below u k)).1 (u, v, m, refl, refl))),
         st-way s n v t h m.2 p.3,
       )
 
-  numbers : Numbering (Related M 0) M.frame.size (class_of F S) S.classes
+  numbers : Numbering (Related M 0) M.frame.size (class_of F S) S.partition.classes
   numbers = record {
-    ranked = ranked_two M.frame.size F.components S.classes (part F) (at S.class) O.components.ranked B.classes.ranked;
+    ranked = ranked_two M.frame.size F.components S.partition.classes (part F) (at S.partition.class) O.components.ranked B.classes.ranked;
     same = same;
   }
 
-  pub started : F.labels ≡ S.classes → Tabled M 0 F S
+  pub started : F.labels ≡ S.partition.classes → Tabled M 0 F S
   started e = record {
     surveyed = O;
     labels = (class_of F S, subst (λ m. Numbering (Related M 0) M.frame.size (class_of F S) m) (sym e) numbers);
     made = B.made;
     classes = numbers;
-    groups = B.groups;
+    items = B.items;
     reach = λ s t h k.
         let r = B.reach (part F s) (part F t) (below s h) in (
           (λ o. let w = r.0 o in way-st w.0 s t h k w.1),
@@ -124,10 +148,10 @@ labelled F h = record {
   moves = F.moves;
 }
 
-pub begun : (M : Kripke) (F : Found) (S : Rounds) → Surveyed M F → Started F S → Tabled M 0 (labelled F S.classes) S
-begun M F S O B = started M (labelled F S.classes) S O' B' refl
+pub begun : (M : Kripke) (F : Found) (S : Rounds) (h : ℕ) → h ≡ S.partition.classes → Surveyed M F → Started F S → Tabled M 0 (labelled F h) S
+begun M F S h e O B = started M (labelled F h) S O' B' e
   where
-    O' : Surveyed M (labelled F S.classes)
+    O' : Surveyed M (labelled F h)
     O' = record {
       formed = O.formed;
       admitted = O.admitted;
@@ -138,8 +162,8 @@ begun M F S O B = started M (labelled F S.classes) S O' B' refl
       moves = O.moves;
     }
 
-    B' : Started (labelled F S.classes) S
-    B' = record { made = B.made; settled = B.settled; classes = B.classes; groups = B.groups; reach = B.reach }
+    B' : Started (labelled F h) S
+    B' = record { made = B.made; settled = B.settled; classes = B.classes; items = B.items; reach = B.reach }
 
 -- a gap that is found before the rows are looked at
 pub early : (M : Kripke) (walks states : ℕ) (gap : Gap) → Gaps M.frame gap → (Sized M.frame → ⊥) → AfterScratch M walks states gap

@@ -9,7 +9,8 @@ use Rattle.survey.specs.Gaps.{Admitted}
 use Rattle.sets.specs.Sets.{In}
 use Rattle.merger.specs.declared.tables.Found.{Found}
 use Rattle.merger.specs.declared.tables.Rounds.{Rounds}
-use Rattle.merger.specs.Grids.{at, set_at, On, Groups}
+use Rattle.merger.specs.Grids.{at, set_at}
+use Rattle.merger.specs.Reaching.{On}
 use Rattle.merger.specs.Tables.{part, class_of, words_of, Passes}
 
 -- none of the first r rounds parted nothing
@@ -32,8 +33,8 @@ pub record Tabled (M : Kripke) (r : ℕ) (F : Found) (S : Rounds) : Type 0 where
   pub surveyed : Surveyed M F
   pub labels : (c : ℕ → ℕ) × Numbering (Related M 0) M.frame.size c F.labels
   pub made : S.made ≡ r
-  pub classes : Numbering (Related M r) M.frame.size (class_of F S) S.classes
-  pub groups : Groups S.members S.class F.components
+  pub classes : Numbering (Related M r) M.frame.size (class_of F S) S.partition.classes
+  pub items : S.partition.len ≡ F.components
   pub reach : (s t : ℕ) → s < M.frame.size → t < M.frame.size → On S.reach (part F s) (part F t) ↔ ST M.frame (Related M r) s t
   pub ended : S.settled ≡ true → Settles M r
   pub going : S.settled ≡ false → Unsettled M r

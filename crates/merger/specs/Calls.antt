@@ -23,7 +23,7 @@ pub record Analysed (M : Kripke) (r : ℕ) (a : Analysis) : Type 0 where
 
 -- a keeps the promise
 abbrev pub Promises : Kripke → ℕ → Analysis → Type 0
-Promises M r a = Promise M r (class_of a.found a.rounds) a.rounds.classes
+Promises M r a = Promise M r (class_of a.found a.rounds) a.rounds.partition.classes
 
 -- b is a after calls that ask for so many rounds: it stands for the same model, after as many rounds as it can, and keeps the promise
 abbrev pub Continues : ℕ → Analysis → Analysis → Type 0
@@ -51,7 +51,7 @@ pub record SummaryAnswer (a : Analysis) (answer : Result Summary Refusal) : Type
   pub shut : a.opened ≡ false → Refused answer 21 None
   pub told : (M : Kripke) (r : ℕ) → Analysed M r a → MatchResult answer (Sums M r) (λ _. ⊥)
   -- the states and the classes counted are those of which a promises
-  pub same : IfOk answer (λ x. (x.states ≡ a.found.states) × (x.classes ≡ a.rounds.classes))
+  pub same : IfOk answer (λ x. (x.states ≡ a.found.states) × (x.classes ≡ a.rounds.partition.classes))
 
 pub record ClassAnswer (a : Analysis) (s : ℕ) (answer : Result ℕ Refusal) : Type 0 where
   pub shut : a.opened ≡ false → Refused answer 21 None

@@ -1,15 +1,11 @@
--- Tables of marks and of sets, a row or a set for each component.
-use Rattle.std.specs.Prelude.{◌≡◌, ℕ, ◌<◌, ◌⊎◌, ◌↔◌, List, [], ◌≢◌, slice_index, slice_index_or}
+-- Rows of numbers and of sets, a place for each component.
+use Rattle.std.specs.Prelude.{◌≡◌, ℕ, ◌<◌, ◌⊎◌, ◌↔◌, List, ◌≢◌, slice_index, slice_index_or}
 use Rattle.sets.specs.declared.Set.{Set}
 use Rattle.sets.specs.Sets.{In, none}
 
 -- place k of a row
 abbrev pub at : List ℕ → ℕ → ℕ
 at row k = slice_index row k
-
--- row k has a mark at l
-abbrev pub On : List (List ℕ) → ℕ → ℕ → Type 0
-On table k l = at (slice_index_or table k []) l ≡ 1
 
 -- set k of a table
 abbrev pub set_at : List Set → ℕ → Set
@@ -19,7 +15,7 @@ set_at sets k = slice_index_or sets k none
 abbrev pub Kept : List ℕ → List ℕ → Set → Type 0
 Kept row row' gone = (l : ℕ) → (at row' l ≡ 1) ↔ ((at row l ≡ 1) × (In gone l → ⊥))
 
--- members has the components of each class, of those below count
+-- members has the items of each class, of those below count
 pub record Groups (members : List Set) (class : List ℕ) (count : ℕ) : Type 0 where
   pub low : (k : ℕ) → k < count → at class k < 128
   pub each : (c k : ℕ) → In (set_at members c) k ↔ ((k < count) × (at class k ≡ c))
@@ -35,20 +31,6 @@ Ahead moves class from c = (to : ℕ) × moves to × Counts class from to × (cl
 -- the set has two members
 abbrev pub Several : Set → Type 0
 Several x = (j k : ℕ) × In x j × In x k × (j ≢ k)
-
--- class c is one move ahead of a component that component k reaches
-abbrev pub Outlook : List (List ℕ) → List Set → List ℕ → ℕ → ℕ → ℕ → Type 0
-Outlook reach moves class count k c = (l : ℕ) × (l < count) × On reach k l × Ahead (In (set_at moves l)) (at class) l c
-
--- rows has, for each component in wanted, the classes that are ahead of what it reaches
-abbrev pub Outlooks : List Set → List (List ℕ) → List Set → List ℕ → ℕ → Set → Type 0
-Outlooks rows reach moves class count wanted = (k : ℕ) → In wanted k → (c : ℕ) → In (set_at rows k) c ↔ Outlook reach moves class count k c
-
--- row k of reach' is row k of reach without the marks of what was in the class of k and is no more
-abbrev pub Narrowed : List (List ℕ) → List (List ℕ) → List ℕ → List Set → List ℕ → List Set → ℕ → Type 0
-Narrowed reach reach' class members class' members' count =
-    (k l : ℕ) → k < count →
-    On reach' k l ↔ (On reach k l × (In (set_at members (at class k)) l × (In (set_at members' (at class' k)) l → ⊥) → ⊥))
 
 -- two sets have the same members
 abbrev pub Same : Set → Set → Type 0

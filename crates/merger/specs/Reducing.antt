@@ -17,10 +17,10 @@ meaning x = filled x.states x.words x.facts x.moves
 
 -- each class has the facts and the row of one of its components
 pub record Drawn (F : Found) (S : Rounds) (rows : List Set) (x : Reduced) : Type 0 where
-  pub states : x.states ≡ S.classes
+  pub states : x.states ≡ S.partition.classes
   pub words : x.words ≡ F.words
-  pub taken : (c : ℕ) → c < S.classes →
-      (k : ℕ) × (k < F.components) × (at S.class k ≡ c) × (at x.facts c ≡ at F.facts k) × (set_at x.moves c ≡ set_at rows k)
+  pub taken : (c : ℕ) → c < S.partition.classes →
+      (k : ℕ) × (k < F.components) × (at S.partition.class k ≡ c) × (at x.facts c ≡ at F.facts k) × (set_at x.moves c ≡ set_at rows k)
 
 -- R is the reduced model of M, whose classes after r rounds f numbers, and can stand for M
 abbrev pub Fills : Kripke → ℕ → Kripke → Type 0

@@ -8,17 +8,14 @@ use Rattle.kripke.specs.Paths.{Trail}
 use Rattle.kripke.specs.Numbering.{Numbering}
 use Rattle.merger.specs.declared.tables.Found.{Found}
 use Rattle.merger.specs.declared.tables.Rounds.{Rounds}
-use Rattle.merger.specs.Grids.{at, set_at, On, Groups}
+use Rattle.merger.specs.declared.partition.Partition.{Partition}
+use Rattle.merger.specs.Grids.{at, set_at}
+use Rattle.merger.specs.Reaching.{On}
 use Rattle.merger.specs.Tables.{words_of}
 
--- members has the states below n of each component, and targets what these move to
-pub record Tied (rows : List Set) (component : List ℕ) (members targets : List Set) (n : ℕ) : Type 0 where
-  pub states : (k s : ℕ) → In (set_at members k) s ↔ ((s < n) × (at component s ≡ k))
-  pub moves : (k t : ℕ) → In (set_at targets k) t ↔ ((s : ℕ) × (s < n) × (at component s ≡ k) × In (set_at rows s) t)
-
 -- component k is component l, or moves to it, and they have one class
-abbrev pub Inner : List Set → List ℕ → ℕ → ℕ → ℕ → Type 0
-Inner moves class count k l = (k < count) × (l < count) × (at class k ≡ at class l) × ((l ≡ k) ⊎ In (set_at moves k) l)
+abbrev pub Inner : List Set → Partition → ℕ → ℕ → Type 0
+Inner moves P k l = (k < P.len) × (l < P.len) × (at P.class k ≡ at P.class l) × ((l ≡ k) ⊎ In (set_at moves k) l)
 
 -- facts has for component k the words of one of its states below n
 abbrev pub Spoken : Kripke → List ℕ → List ℕ → ℕ → ℕ → Type 0
@@ -28,7 +25,7 @@ Spoken M component facts n k = (t : ℕ) × (t < n) × (at component t ≡ k) ×
 pub record Started (F : Found) (S : Rounds) : Type 0 where
   pub made : S.made ≡ 0
   pub settled : S.settled ≡ false
-  pub classes : Numbering (λ j k. SameWords (words_of (at F.facts j)) (words_of (at F.facts k))) F.components (at S.class) S.classes
-  pub groups : Groups S.members S.class F.components
+  pub classes : Numbering (λ j k. SameWords (words_of (at F.facts j)) (words_of (at F.facts k))) F.components (at S.partition.class) S.partition.classes
+  pub items : S.partition.len ≡ F.components
   pub reach : (k l : ℕ) → k < F.components →
-      On S.reach k l ↔ ((n : ℕ) × Trail (Inner F.moves S.class F.components) (λ j. j < F.components) n k l)
+      On S.reach k l ↔ ((n : ℕ) × Trail (Inner F.moves S.partition) (λ j. j < F.components) n k l)

@@ -1,50 +1,38 @@
 //! The moves between components.
-ghost use Rattle.std.specs.Prelude.{◌≡◌, ℕ, ◌<◌, ◌≤◌, ◌↔◌, length};
+ghost use Rattle.std.specs.Prelude.{◌≡◌, ℕ, ◌<◌, ◌↔◌};
 ghost use Rattle.sets.specs.Sets.{In};
 ghost use Rattle.merger.specs.Grids.{at, set_at};
-ghost use Rattle.merger.specs.Starts.{Tied};
 
-use crate::ahead::numbers_of;
+use crate::partition::Partition;
+use crate::tables::table;
 use sets::Set;
 
-// Of each component: its states, and the states that they move to.
-#[derive(Drop)]
-struct Ties {
-    members: [Set; 128],
-    targets: [Set; 128],
+// Where some states move to.
+fn targets(rows: &[Set; 128], states: Set) -> Set
+    ensures { (t : ℕ) → In result t ↔ ((s : ℕ) × In states s × In (set_at rows.now s) t) }
+{
+    let mut all = Set::NONE;
+    for s in states {
+        all = all.or(rows[s]);
+    }
+    all
 }
 
-fn tie(rows: &[Set; 128], component: &[u8; 128], states: usize) -> Ties
-    requires few { states ≤ 128 }
-    requires low { (s : ℕ) → s < states → at component.now s < 128 }
-    ensures { Tied rows.now component.now result.members result.targets states }
+// The components that the states of component `k` move to.
+fn moves_of(rows: &[Set; 128], components: &Partition, k: usize) -> Set
+    requires inside { (s t : ℕ) → s < components.now.len → In (set_at rows.now s) t → t < components.now.len }
+    requires component { k < components.now.classes }
+    ensures { (l : ℕ) → In result l ↔ ((s t : ℕ) × (s < components.now.len) × In (set_at rows.now s) t × (at components.now.class s ≡ k) × (at components.now.class t ≡ l)) }
 {
-    let mut members = [Set::NONE; 128];
-    let mut targets = [Set::NONE; 128];
-    for s in 0..states {
-        let k = component[s] as usize;
-        members[k] = members[k].with(s);
-        targets[k] = targets[k].or(rows[s]);
-    }
-    Ties { members, targets }
+    components.classes_of(targets(rows, components.members(k)))
 }
 
 // For each component, the components that its states move to.
-pub(crate) fn moves_between(
-    rows: &[Set; 128],
-    component: &[u8; 128],
-    states: usize,
-    count: usize,
-) -> [Set; 128]
-    requires few { (states ≤ 128) × (count ≤ 128) }
-    requires low { (s : ℕ) → s < states → at component.now s < 128 }
-    requires inside { (s t : ℕ) → s < states → In (set_at rows.now s) t → t < states }
-    ensures { (k l : ℕ) → k < count → In (set_at result k) l ↔ ((s t : ℕ) × (s < states) × In (set_at rows.now s) t × (at component.now s ≡ k) × (at component.now t ≡ l)) }
+pub(crate) fn moves_between(rows: &[Set; 128], components: &Partition) -> [Set; 128]
+    requires { (s t : ℕ) → s < components.now.len → In (set_at rows.now s) t → t < components.now.len }
+    ensures { (k l : ℕ) → k < components.now.classes → In (set_at result k) l ↔ ((s t : ℕ) × (s < components.now.len) × In (set_at rows.now s) t × (at components.now.class s ≡ k) × (at components.now.class t ≡ l)) }
 {
-    let ties = tie(rows, component, states);
-    let mut moves = [Set::NONE; 128];
-    for k in 0..count {
-        moves[k] = numbers_of(ties.targets[k], component, &ties.members);
-    }
-    moves
+    table(Set::NONE, Set::below(components.classes()), |k| {
+        moves_of(rows, components, k)
+    })
 }

@@ -9,6 +9,8 @@ use crate::analysis::Analysis;
 use crate::answers::{Made, OpenRefusal, Opened, Ran, Refusal, Summary};
 use crate::filling::reduce;
 use crate::opening::{look_over, start};
+use crate::partition::Partition;
+use crate::reach::Reach;
 use crate::reduced::Reduced;
 use crate::tables::{Found, Rounds};
 use components::Walk;
@@ -33,16 +35,11 @@ impl Analysis {
             facts,
             moves,
         };
-        let class = [0; 128];
-        let members = [Set::NONE; 128];
-        let reach = [[0; 128]; 128];
         let rounds = Rounds {
             made: 0,
             settled: false,
-            classes: 0,
-            class,
-            members,
-            reach,
+            partition: Partition::new(),
+            reach: Reach::new(),
         };
         Analysis {
             opened: false,
@@ -67,7 +64,7 @@ impl Analysis {
         let rows = rows_of(model)?;
         look_over(&mut self.found, model, &rows, walks, states);
         start(&self.found, &mut self.rounds);
-        self.found.labels = self.rounds.classes;
+        self.found.labels = self.rounds.partition.classes();
         self.opened = true;
         Ok(Opened {
             states: self.found.states,
@@ -98,7 +95,7 @@ impl Analysis {
         self.step();
         Ok(Made {
             rounds: self.rounds.made,
-            classes: self.rounds.classes,
+            classes: self.rounds.partition.classes(),
             settled: self.rounds.settled,
         })
     }
@@ -133,7 +130,7 @@ impl Analysis {
             components: self.found.components,
             labels: self.found.labels,
             rounds: self.rounds.made,
-            classes: self.rounds.classes,
+            classes: self.rounds.partition.classes(),
             settled: self.rounds.settled,
         })
     }
@@ -149,7 +146,7 @@ impl Analysis {
             return Err(Refusal::NoState(s));
         }
         let component = self.found.component[s as usize] as usize;
-        Ok(self.rounds.class[component] as u16)
+        Ok(self.rounds.partition.class_of(component) as u16)
     }
 
     /// Whether two states share a class.
@@ -171,14 +168,11 @@ impl Analysis {
         if !self.rounds.settled {
             return Err(Refusal::NotSettled);
         }
-        let count = self.found.components;
         let rows = outlooks(
             &self.rounds.reach,
             &self.found.moves,
-            &self.rounds.class,
-            &self.rounds.members,
-            Set::below(count),
-            count,
+            &self.rounds.partition,
+            Set::below(self.found.components),
         );
         *out = reduce(&self.found, &self.rounds, &rows);
         Ok(())

@@ -6,7 +6,7 @@ ghost use Rattle.merger.specs.Tables.{Bounded};
 ghost use Rattle.merger.specs.Reducing.{meaning, Drawn};
 
 use crate::reduced::Reduced;
-use crate::tables::{Found, Rounds};
+use crate::tables::{Found, Rounds, table};
 use sets::Set;
 
 impl Reduced {
@@ -28,21 +28,15 @@ impl Reduced {
 // One state for each class, with the words and the row of its first component.
 pub(crate) fn reduce(found: &Found, rounds: &Rounds, rows: &[Set; 128]) -> Reduced
     requires bounds { Bounded found.now rounds.now }
-    requires rows { (k c : ℕ) → k < found.now.components → In (set_at rows.now k) c → c < rounds.now.classes }
+    requires rows { (k c : ℕ) → k < found.now.components → In (set_at rows.now k) c → c < rounds.now.partition.classes }
     ensures { Drawn found.now rounds.now rows.now result }
 {
-    let mut facts = [0; 128];
-    let mut moves = [Set::NONE; 128];
-    for c in 0..rounds.classes {
-        if let Some((k, _)) = rounds.members[c].split_first() {
-            facts[c] = found.facts[k];
-            moves[c] = rows[k];
-        }
-    }
+    let classes = &rounds.partition;
+    let all = Set::below(classes.classes());
     Reduced {
-        states: rounds.classes as u16,
+        states: classes.classes() as u16,
         words: found.words,
-        facts,
-        moves,
+        facts: table(0, all, |c| found.facts[classes.first(c)]),
+        moves: table(Set::NONE, all, |c| rows[classes.first(c)]),
     }
 }

@@ -12,7 +12,7 @@ mod filling;
 mod labels;
 pub mod lists;
 mod opening;
-mod parting;
+mod partition;
 pub mod performing;
 mod reach;
 pub mod reduced;

@@ -1,5 +1,5 @@
 //! A model looked over, and its analysis begun.
-ghost use Rattle.std.specs.Prelude.{◌≡◌, ℕ, ◌<◌, ◌≤◌, length};
+ghost use Rattle.std.specs.Prelude.{◌≡◌, ℕ, ◌≤◌, length};
 ghost use Rattle.sets.specs.Sets.{In};
 ghost use Rattle.survey.specs.Gaps.{Admitted, Linked};
 ghost use Rattle.merger.specs.Grids.{set_at};
@@ -9,8 +9,7 @@ ghost use Rattle.merger.specs.Starts.{Started};
 use crate::between::moves_between;
 use crate::closure::close;
 use crate::labels::{facts_of, label_classes};
-use crate::parting::Parting;
-use crate::reach::mark_all;
+use crate::partition::Partition;
 use crate::tables::{Found, Rounds};
 use components::{Walk, find_components};
 use models::Model;
@@ -30,17 +29,13 @@ pub(crate) fn look_over<M: Model>(
     ensures { Surveyed (M.Model.means model.now) found.new }
 {
     let size = model.size();
-    let count = match find_components(model, walks, states, &mut found.component) {
-        Ok(parts) => parts.count as usize,
-        Err(_) => unreachable(),
-    };
-    let facts = facts_of(model, &found.component, size);
-    let moves = moves_between(rows, &found.component, size as usize, count);
+    let parts = find_components(model, walks, states, &mut found.component).unwrap();
+    let components = Partition::numbered(&found.component, size as usize);
     found.states = size;
     found.words = model.words();
-    found.components = count;
-    found.facts = facts;
-    found.moves = moves;
+    found.components = parts.count as usize;
+    found.facts = facts_of(model, &components);
+    found.moves = moves_between(rows, &components);
 }
 
 // The classes of alike components, and what each component reaches in its class.
@@ -48,19 +43,9 @@ pub(crate) fn start(found: &Found, rounds: &mut Rounds)
     requires few { found.now.components ≤ 128 }
     ensures { Started found.now rounds.new }
 {
-    let count = found.components;
-    let labels = label_classes(&found.facts, count);
-    let reach = close(&found.moves, &labels.class, &labels.members, count);
-    mark_all(&mut rounds.reach, &reach, count);
-    let Parting {
-        class,
-        members,
-        heads: _,
-        classes,
-    } = labels;
+    rounds.partition = label_classes(&found.facts, found.components);
+    let reach = close(&found.moves, &rounds.partition);
+    rounds.reach.fill(&reach, found.components);
     rounds.made = 0;
     rounds.settled = false;
-    rounds.classes = classes;
-    rounds.class = class;
-    rounds.members = members;
 }

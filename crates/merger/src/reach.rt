@@ -1,29 +1,26 @@
-//! The reach table: for each ordered pair of components one byte, which is 1 if the second is reached from the first inside
-//! its class. No other module looks into a row.
-ghost use Rattle.std.specs.Prelude.{◌≡◌, ℕ, ◌+◌, ◌<◌, ◌≤◌, ◌⊎◌, ◌↔◌, [], length, Decides};
+//! What each component reaches inside its class.
+ghost use Rattle.std.specs.Prelude.{◌≡◌, ℕ, ◌+◌, ◌<◌, ◌≤◌, ◌⊎◌, ◌↔◌, Decides};
 ghost use Rattle.sets.specs.Sets.{In};
-ghost use Rattle.merger.specs.Grids.{at, set_at, On, Kept, Narrowed};
+ghost use Rattle.merger.specs.Grids.{at, set_at, Kept};
+ghost use Rattle.merger.specs.Reaching.{On, Narrowed};
 
-use crate::parting::Parting;
+use crate::partition::Partition;
+use crate::tables::table;
 use sets::Set;
 
-// Whether eight places from `from` on are all clear.
-fn clear_eight(row: &[u8; 128], from: usize) -> bool
-    requires { from + 8 ≤ 128 }
-    ensures { Decides result ((j : ℕ) → from ≤ j → j < from + 8 → at row.now j ≡ 0) }
+// Which component reaches which, both of one class.
+#[derive(Drop)]
+pub(crate) struct Reach {
+    // for each ordered pair one byte, which is 1 if the first reaches the second
+    rows: [[u8; 128]; 128],
+}
+
+// Whether eight marks are all clear.
+fn is_clear(eight: &[u8; 8]) -> bool
+    ensures { Decides result ((j : ℕ) → j < 8 → at eight.now j ≡ 0) }
 {
     // one load
-    let places = u64::from_le_bytes([
-        row[from],
-        row[from + 1],
-        row[from + 2],
-        row[from + 3],
-        row[from + 4],
-        row[from + 5],
-        row[from + 6],
-        row[from + 7],
-    ]);
-    places == 0
+    u64::from_le_bytes(*eight) == 0
 }
 
 // What is in `all`, or in the set of some component that the row marks, from `from` up to `end`.
@@ -40,71 +37,65 @@ fn union_between(row: &[u8; 128], sets: &[Set; 128], from: usize, end: usize, al
     more
 }
 
-// What is in the set of some component that the row marks.
-pub(crate) fn union(row: &[u8; 128], sets: &[Set; 128], count: usize) -> Set
+// What is in the set of some component below `count` that the row marks.
+fn union_of_marked(row: &[u8; 128], sets: &[Set; 128], count: usize) -> Set
     requires { count ≤ 128 }
     ensures { (c : ℕ) → In result c ↔ ((l : ℕ) × (l < count) × (at row.now l ≡ 1) × In (set_at sets.now l) c) }
 {
     let mut all = Set::NONE;
-    for block in 0..(count + 7) / 8 {
-        let from = block * 8;
-        if !clear_eight(row, from) {
+    let (eights, _) = row.as_chunks::<8>();
+    for (block, eight) in eights[..count.div_ceil(8)].iter().enumerate() {
+        if !is_clear(eight) {
+            let from = block * 8;
             all = union_between(row, sets, from, count.min(from + 8), all);
         }
     }
     all
 }
 
-// The marks of the components in a set.
-fn marks(set: Set) -> [u8; 128]
-    ensures { (l : ℕ) → (at result l ≡ 1) ↔ In set l }
-{
-    let mut row = [0; 128];
-    let mut left = set;
-    while let Some((l, rest)) = left.split_first() {
-        row[l] = 1;
-        left = rest;
-    }
-    row
-}
-
-// Marks in each row what is in the component's set.
-pub(crate) fn mark_all(reach: &mut [[u8; 128]; 128], sets: &[Set; 128], count: usize)
-    requires { count ≤ 128 }
-    ensures { (k l : ℕ) → k < count → On reach.new k l ↔ In (set_at sets.now k) l }
-{
-    for k in 0..count {
-        reach[k] = marks(sets[k]);
-    }
-}
-
 // Clears the marks of the components in `gone`.
-pub(crate) fn clear(row: &mut [u8; 128], gone: Set)
+fn clear(row: &mut [u8; 128], gone: Set)
     ensures { Kept row.old row.new gone }
 {
-    let mut left = gone;
-    while let Some((l, rest)) = left.split_first() {
+    for l in gone {
         row[l] = 0;
-        left = rest;
     }
 }
 
-// Clears the pairs of components that were parted.
-pub(crate) fn narrow(
-    reach: &mut [[u8; 128]; 128],
-    class: &[u8; 128],
-    members: &[Set; 128],
-    parting: &Parting,
-    count: usize,
-)
-    requires few { count ≤ 128 }
-    requires old { (k : ℕ) → k < count → at class.now k < 128 }
-    requires new { (k : ℕ) → k < count → at parting.now.class k < 128 }
-    ensures { Narrowed reach.old reach.new class.now members.now parting.now.class parting.now.members count }
-{
-    for k in 0..count {
-        let before = members[class[k] as usize];
-        let after = parting.members[parting.class[k] as usize];
-        clear(&mut reach[k], before.minus(after));
+impl Reach {
+    // Nothing is reached.
+    pub(crate) fn new() -> Reach {
+        Reach {
+            rows: [[0; 128]; 128],
+        }
+    }
+
+    // Lets each component below `count` reach what is in its set.
+    pub(crate) fn fill(&mut self, sets: &[Set; 128], count: usize)
+        requires { count ≤ 128 }
+        ensures { (k l : ℕ) → k < count → On self.new k l ↔ In (set_at sets.now k) l }
+    {
+        for k in 0..count {
+            self.rows[k] = table(0, sets[k], |_| 1);
+        }
+    }
+
+    // What is in the set of some component below `count` that component `k` reaches.
+    pub(crate) fn union(&self, k: usize, sets: &[Set; 128], count: usize) -> Set
+        requires { (k < 128) × (count ≤ 128) }
+        ensures { (c : ℕ) → In result c ↔ ((l : ℕ) × (l < count) × On self.now k l × In (set_at sets.now l) c) }
+    {
+        union_of_marked(&self.rows[k], sets, count)
+    }
+
+    // Clears the pairs of components that were parted.
+    pub(crate) fn narrow(&mut self, old: &Partition, new: &Partition)
+        requires { old.now.len ≡ new.now.len }
+        ensures { Narrowed self.old self.new old.now new.now }
+    {
+        for k in 0..old.len() {
+            let gone = old.group_of(k).minus(new.group_of(k));
+            clear(&mut self.rows[k], gone);
+        }
     }
 }

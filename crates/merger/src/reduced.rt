@@ -53,10 +53,7 @@ impl KripkeModel for Reduced {
         if s >= self.states {
             return None;
         }
-        match self.moves[s as usize].nth(k as usize) {
-            Some(t) => Some(t as u16),
-            None => None,
-        }
+        self.moves[s as usize].nth(k as usize).map(|t| t as u16)
     }
 
     fn facts(&self, s: u16) -> Facts {

@@ -1,4 +1,9 @@
-//! What an analysis holds, in plain tables for at most 128 states.
+//! What an analysis holds, in plain tables for at most 128 states; and tables made place by place.
+ghost use Rattle.std.specs.Prelude.{◌≡◌, ℕ, ◌<◌, slice_index_or};
+ghost use Rattle.sets.specs.Sets.{In};
+
+use crate::partition::Partition;
+use crate::reach::Reach;
 use sets::Set;
 
 // What an accepted open found; no round alters it.
@@ -21,11 +26,20 @@ pub struct Found {
 pub struct Rounds {
     pub(crate) made: usize,
     pub(crate) settled: bool,
-    pub(crate) classes: usize,
-    // of each component: its class
-    pub(crate) class: [u8; 128],
-    // of each class: its components
-    pub(crate) members: [Set; 128],
-    // of each component, for each other: 1 if it is reached from the first inside their class
-    pub(crate) reach: [[u8; 128]; 128],
+    // of the components
+    pub(crate) partition: Partition,
+    pub(crate) reach: Reach,
+}
+
+// The table that has what `make` gives at each of `places`, and `blank` at the others.
+pub(crate) fn table<T: Copy, F: Fn(usize) -> T>(blank: T, places: Set, make: F) -> [T; 128]
+    requires can { (k : ℕ) → In places k → k < 128 → F.pre make k }
+    ensures made { (k : ℕ) (d : T) → In places k → F.post make k (slice_index_or result k d) }
+    ensures others { (k : ℕ) → (In places k → ⊥) → slice_index_or result k blank ≡ blank }
+{
+    let mut table = [blank; 128];
+    for k in places {
+        table[k] = make(k);
+    }
+    table
 }

@@ -1,6 +1,9 @@
-use Rattle.std.proofs.Common.{refl}
+use Rattle.std.proofs.Common.{refl, ◌∙◌, subst, arith}
 use Rattle.std.proofs.lemmas.Bool.{eqb-true, eqb-false}
-use Rattle.merger.proofs.Advancing.{numbering_as, wanted_low, wanted_class, like_together, cut_parted}
+use Rattle.kripke.specs.Numbering.{Numbering}
+use Rattle.merger.specs.Grids.{at}
+use Rattle.merger.specs.Tables.{Together}
+use Rattle.merger.proofs.Advancing.{numbering_as, wanted_low, wanted_reached, like_together, cut_parted}
 use Rattle.merger.proofs.advance.advance.Goals as goal
 
 pub outlooks-rows-requires : goal.outlooks-rows-requires
@@ -10,12 +13,11 @@ outlooks-rows-requires c =
     let B = c.requires in
     let w = c.shared-wanted.result in
     let s = c.shared-wanted.ensures in
+    let same = B.items in
     record {
-      few = B.few;
-      groups = B.groups;
       wanted = wanted_low F S B w s;
-      inside = λ k h to m. B.moves k to (wanted_low F S B w s k h) m;
-      closed = λ k l h b o. wanted_class F S B w s k l h b (B.near k l (wanted_low F S B w s k h) b o);
+      inside = λ k h to m. let low = wanted_low F S B w s k h in let l = B.moves k to (omega arith) m in omega arith;
+      closed = wanted_reached F S B w s;
     }
 
 pub returns : goal.returns
@@ -25,12 +27,15 @@ returns c =
     let B = c.requires in
     let w = c.shared-wanted.result in
     let s = c.shared-wanted.ensures in
-    let p = c.part-parting.result in
+    let p = c.refined-parted.result in
+    let new = c.classes.ensures in
+    let old = c.classes-2.ensures in
     record {
       made = refl;
-      classes = numbering_as _ _ _ _ _ (like_together F S B w s c.outlooks-rows.result c.outlooks-rows.ensures) c.part-parting.ensures.numbers;
-      groups = c.part-parting.ensures.groups;
-      reach = cut_parted F S B w s c.narrow.new.reach p.class p.members c.part-parting.ensures.groups c.narrow.ensures;
-      ends = eqb-true _ _;
-      goes = eqb-false _ _;
+      classes = subst (λ n. Numbering (Together F S) n (at p.class) p.classes) B.items
+          (numbering_as _ _ _ _ _ (like_together F S B w s c.outlooks-rows.result c.outlooks-rows.ensures) c.refined-parted.ensures.numbers);
+      items = c.refined-parted.ensures.len ∙ B.items;
+      reach = cut_parted F S B w s c.narrow.new.self p c.narrow.ensures;
+      ends = λ e. let q = eqb-true c.classes.result c.classes-2.result e in omega arith;
+      goes = λ e q. eqb-false c.classes.result c.classes-2.result e (omega arith);
     }

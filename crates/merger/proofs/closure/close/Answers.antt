@@ -1,6 +1,7 @@
 use Rattle.std.proofs.Common.{◌≡◌, ℕ, suc, ◌+◌, ◌<◌, ◌↔◌, subst, arith}
 use Rattle.sets.specs.Sets.{In}
 use Rattle.kripke.proofs.Roads.{Via}
+use Rattle.merger.specs.declared.partition.Partition.{Partition}
 use Rattle.merger.specs.Grids.{set_at}
 use Rattle.merger.specs.Starts.{Inner}
 use Rattle.merger.proofs.Closing.{via_own, via_pass, via_trail}
@@ -11,22 +12,32 @@ loop-mid-init c = c.inner-reach.ensures
 
 pub pass-requires : goal.pass-requires
 pass-requires c =
+    let P : Partition = c.args.classes.now in
     let mid = c.loop-mid.mid in
-    let low = c.loop-mid-test.true in
-    let few = c.requires.few in
-    record { own = (omega arith, (c.loop-mid.invariant mid mid low).1 (via_own _ _ _ mid mid low)) }
+    let end = c.len-mid-end.ensures in
+    let few = P.few in
+    let test = c.loop-mid-test.true in
+    let low : mid < P.len = omega arith in
+    record { own = (omega arith, (c.loop-mid.invariant mid mid low).1 (via_own c.args.moves.now P mid mid low)) }
 
 pub loop-mid-preserved : goal.loop-mid-preserved
 loop-mid-preserved c =
+    let P : Partition = c.args.classes.now in
     let mid = c.loop-mid.mid in
+    let end = c.len-mid-end.ensures in
+    let test = c.loop-mid-test.true in
+    let low : mid < P.len = omega arith in
     let e : suc mid ≡ mid + 1 = omega arith in
-    subst (λ n. (k j : ℕ) → k < c.args.count → In (set_at c.pass.new.reach k) j ↔ Via (Inner c.args.moves.now c.args.class.now c.args.count) n k j) e
-    (via_pass _ _ _ c.args.members.now c.requires.groups c.loop-mid.reach c.pass.new.reach mid c.loop-mid-test.true c.loop-mid.invariant c.pass.ensures)
+    subst (λ n. (k j : ℕ) → k < P.len → In (set_at c.pass.new.reach k) j ↔ Via (Inner c.args.moves.now P) n k j) e
+    (via_pass c.args.moves.now P c.loop-mid.reach c.pass.new.reach mid c.group_of.result low c.group_of.ensures c.loop-mid.invariant c.pass.ensures)
 
 pub returns : goal.returns
 returns c k l h =
-    let e : c.loop-mid.mid ≡ c.args.count = omega arith in
-    let E = Inner c.args.moves.now c.args.class.now c.args.count in
+    let P : Partition = c.args.classes.now in
+    let end = c.len-mid-end.ensures in
+    let past = c.loop-mid-test.false in
+    let e : c.loop-mid.mid ≡ P.len = omega arith in
+    let E = Inner c.args.moves.now P in
     let v = subst (λ n. In (set_at c.loop-mid.reach k) l ↔ Via E n k l) e (c.loop-mid.invariant k l h) in
-    let t = via_trail c.args.moves.now c.args.class.now c.args.count k l h in
+    let t = via_trail c.args.moves.now P k l h in
     ((λ o. t.0 (v.0 o)), (λ p. v.1 (t.1 p)))

@@ -6,4 +6,4 @@ use Rattle.merger.specs.Starts.{Inner}
 use Rattle.merger.proofs.closure.close.Given as goal
 
 abbrev pub invariant-loop-mid : goal.invariant-loop-mid
-invariant-loop-mid l = (k j : ℕ) → k < l.count → In (set_at l.reach k) j ↔ Via (Inner l.moves l.class l.count) l.mid k j
+invariant-loop-mid l = (k j : ℕ) → k < l.classes.len → In (set_at l.reach k) j ↔ Via (Inner l.moves l.classes) l.mid k j

@@ -1,24 +1,17 @@
-use Rattle.std.proofs.Common.{◌≡◌, ℕ, ◌↔◌, length, refl, ◌∙◌, arith, length-set}
-use Rattle.sets.specs.declared.Set.{Set}
+use Rattle.std.proofs.Common.{◌≡◌, ℕ, ◌<◌, ◌⊎◌, ◌↔◌, arith, rules}
 use Rattle.sets.specs.Sets.{In, none}
-use Rattle.merger.specs.Starts.{Inner}
-use Rattle.merger.proofs.Tying.{filled_more}
+use Rattle.merger.specs.declared.partition.Partition.{Partition}
+use Rattle.merger.specs.Grids.{at, set_at}
 use Rattle.merger.proofs.Closing.{inner-row}
 use Rattle.merger.proofs.closure.inner.Goals as goal
 
-pub loop-k-init : goal.loop-k-init
-loop-k-init c = (refl, λ k h. absurd (omega arith))
-
-pub loop-k-preserved : goal.loop-k-preserved
-loop-k-preserved c =
-    let i = c.loop-k.invariant in
-    let long : length c.loop-k.table ≡ 128 = i.0 in
-    let few = c.requires.few in (
-      length-set c.loop-k.table _ _ ∙ long,
-      filled_more none (λ k (x : Set). (j : ℕ) → In x j ↔ Inner c.args.moves.now c.args.class.now c.args.count k j)
-          c.loop-k.table c.loop-k.k c.with.result (omega arith) i.1
-          (inner-row _ _ _ c.args.count c.loop-k.k c.and.result c.with.result c.requires.groups c.loop-k-test.true few c.and.ensures c.with.ensures),
-    )
-
 pub returns : goal.returns
-returns c k l h = let n = c.loop-k-test.false in c.loop-k.invariant.1 k (omega arith) l
+returns c k l h =
+    let P : Partition = c.args.classes.now in
+    let moves = c.args.moves.now in
+    let few = P.few in
+    let len = c.len.ensures in
+    let s = c.table.ensures.made k none ((c.below.ensures k).1 (omega arith, omega arith)) in
+    let row : (j : ℕ) → In (set_at c.table.result k) j ↔ ((In (set_at moves k) j × (j < P.len) × (at P.class j ≡ at P.class k)) ⊎ ((j ≡ k) × (k < 128))) =
+    λ j. (search (rules, s), search (rules, s)) in
+    inner-row moves P k (set_at c.table.result k) h row l

@@ -1,64 +1,45 @@
-use Rattle.std.proofs.Common.{◌≡◌, ℕ, ◌+◌, ◌<◌, List, set, sym, refl, subst, arith}
-use Rattle.sets.specs.declared.Set.{Set}
+use Rattle.std.proofs.Common.{◌≡◌, ℕ, refl, ap, ◌∙◌, arith, rules}
 use Rattle.sets.specs.Sets.{none}
-use Rattle.merger.specs.Grids.{at}
-use Rattle.merger.proofs.Blank.{blank}
-use Rattle.merger.proofs.Drawing.{Sketched, sketched_more, sketched_within, sketched_lands}
+use Rattle.kripke.specs.Numbering.{First}
+use Rattle.kripke.proofs.Ranking.{first_one}
+use Rattle.merger.specs.declared.partition.Partition.{Partition}
+use Rattle.merger.specs.Grids.{at, set_at}
+use Rattle.merger.proofs.Drawing.{Sketched, sketched_within, sketched_lands}
 use Rattle.merger.proofs.filling.reduce.Goals as goal
-use Rattle.merger.proofs.filling.reduce.Goals.{in-Some, in_default}
 
-pub loop-c-init : goal.loop-c-init
-loop-c-init c = record {
-  facts_long = refl;
-  moves_long = refl;
-  taken = λ i h. absurd (omega arith);
-  blank_facts = λ i h. blank 128 i 0;
-  blank_moves = λ i h. blank 128 i none;
-}
-
-pub loop-c-preserved : goal.loop-c-preserved
-loop-c-preserved c =
-    let F = c.args.found.now in
-    let S = c.args.rounds.now in
-    let rows = c.args.rows.now in
-    let B = c.requires.bounds in
-    let n = c.loop-c.c in
-    let low : n < S.classes = c.loop-c-test.true in
-    let m = c.match-split_first in
-    elim m.branch [
-      | in-Some w ↦
-          let k = w.in-Some.k in
-          let g = (B.groups.each n k).0 w.in-Some.ensures.has in
-          let room : n < 128 = omega (arith, B.most) in
-          subst (λ (x : List ℕ). Sketched F S rows x m.moves (n + 1)) (sym w.facts-is)
-          (subst (λ (y : List Set). Sketched F S rows (set c.loop-c.facts n (at F.facts k)) y (n + 1)) (sym w.moves-is)
-          (sketched_more F S rows c.loop-c.facts c.loop-c.moves n k room g.0 g.1 c.loop-c.invariant))
-      | in_default w ↦ absurd (B.some n low w.in_default.ensures)
-    ]
+sketched : (c : goal.After-table-2) → Sketched c.args.found.now c.args.rounds.now c.args.rows.now c.table.result c.table-2.result
+sketched c =
+    let P : Partition = c.args.rounds.now.partition in
+    let few = P.few in
+    let most = P.most in
+    let items = c.requires.bounds.items in
+    let count = c.classes.ensures in
+    record {
+      taken = λ i h.
+          let w = (c.below-all.ensures i).1 (omega arith, omega arith) in
+          let one : (k : ℕ) × First P.len (at P.class) i k × (at c.table.result i ≡ at c.args.found.now.facts k) = search (rules, c.table.ensures.made i 0 w) in
+          let two : (k : ℕ) × First P.len (at P.class) i k × (set_at c.table-2.result i ≡ set_at c.args.rows.now k) = search (rules, c.table-2.ensures.made i none w) in
+          let low = one.1.state in
+          (one.0, omega arith, one.1.has, one.2, two.2 ∙ ap (set_at c.args.rows.now) (first_one P.len (at P.class) i two.0 one.0 two.1 one.1));
+      blank_facts = λ i l. c.table.ensures.others i (λ h. let b = ((c.below-all.ensures i).0 h).0 in omega arith);
+      blank_moves = λ i l. c.table-2.ensures.others i (λ h. let b = ((c.below-all.ensures i).0 h).0 in omega arith);
+    }
 
 pub invariant_of-result : goal.invariant_of-result
 invariant_of-result c =
     let F = c.args.found.now in
     let S = c.args.rounds.now in
-    let rows = c.args.rows.now in
+    let P : Partition = S.partition in
     let B = c.requires.bounds in
-    let e : c.loop-c.c ≡ S.classes = omega arith in
-    let K = subst (λ n. Sketched F S rows c.loop-c.facts c.loop-c.moves n) e c.loop-c.invariant in
+    let few = P.few in
+    let most = P.most in
+    let states = c.classes-2.ensures in
     record {
-      few = B.most;
+      few = omega arith;
       spoken = B.spoken;
-      within = sketched_within F S rows B _ _ K;
-      lands = sketched_lands F S rows B _ _ K c.requires.rows;
+      within = sketched_within F S c.args.rows.now _ _ B (sketched c);
+      lands = λ s j h. let l = sketched_lands F S c.args.rows.now _ _ B (sketched c) c.requires.rows s j h in omega arith;
     }
 
 pub returns : goal.returns
-returns c =
-    let F = c.args.found.now in
-    let S = c.args.rounds.now in
-    let rows = c.args.rows.now in
-    let e : c.loop-c.c ≡ S.classes = omega arith in
-    record {
-      states = refl;
-      words = refl;
-      taken = (subst (λ n. Sketched F S rows c.loop-c.facts c.loop-c.moves n) e c.loop-c.invariant).taken;
-    }
+returns c = record { states = c.classes-2.ensures; words = refl; taken = (sketched c.before).taken }

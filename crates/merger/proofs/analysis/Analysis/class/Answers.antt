@@ -1,5 +1,7 @@
-use Rattle.std.proofs.Common.{refl, arith}
+use Rattle.std.proofs.Common.{refl, ◌∙◌, arith}
 use Rattle.std.proofs.lemmas.Bool.{both_ways}
+use Rattle.merger.specs.declared.partition.Partition.{Partition}
+use Rattle.merger.specs.Tables.{part}
 use Rattle.merger.specs.declared.analysis.Analysis.{Analysis}
 use Rattle.merger.proofs.Rounding.{meant_bounded}
 use Rattle.merger.proofs.Promising.{tabled_class}
@@ -24,10 +26,21 @@ bounds-self-s c =
     let B = meant_bounded _ _ (c.args.self.now.meant c.if-not-self.false) in
     let low = c.if-s-self.false in omega (arith, B.wide)
 
-pub bounds-self-component : goal.bounds-self-component
-bounds-self-component c =
+pub class_of-requires : goal.class_of-requires
+class_of-requires c =
     let B = meant_bounded _ _ (c.args.self.now.meant c.if-not-self.false) in
-    omega (arith, B.parts c.args.s c.if-s-self.false, B.few)
+    omega (arith, B.parts c.args.s c.if-s-self.false, B.items)
+
+pub overflow_cast-result : goal.overflow_cast-result
+overflow_cast-result c =
+    let a : Analysis = c.args.self.now in
+    let P : Partition = a.rounds.partition in
+    let B = meant_bounded _ _ (a.meant c.if-not-self.false) in
+    let low = P.low (part a.found c.args.s) (omega (arith, B.parts c.args.s c.if-s-self.false, B.items)) in
+    let most = P.most in
+    let few = P.few in
+    let e = c.class_of.ensures in
+    omega arith
 
 pub returns : goal.returns
 returns c =
@@ -40,8 +53,8 @@ returns c =
           let low = c.if-s-self.false in
           record {
             outside = λ h. absurd (omega arith);
-            told = λ h f m N. tabled_class M r a.found a.rounds A.tabled f m N s h;
+            told = λ h f m N. c.class_of.ensures ∙ tabled_class M r a.found a.rounds A.tabled f m N s h;
           };
-      class = refl;
+      class = c.class_of.ensures;
       promises = λ M r A. promises M r a A;
     }

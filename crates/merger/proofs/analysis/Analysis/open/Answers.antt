@@ -21,12 +21,12 @@ start-requires g c =
     record { few = omega arith }
 
 pub invariant_of-self : goal.invariant_of-self
-invariant_of-self g c = record { meant = λ e. ∣ (g.M.Model.means c.args.model.now, 0, begun _ _ _ c.look_over.ensures c.start.ensures) ∣₁ }
+invariant_of-self g c = record { meant = λ e. ∣ (g.M.Model.means c.args.model.now, 0, begun _ _ _ _ c.classes-self.ensures c.look_over.ensures c.start.ensures) ∣₁ }
 
 pub returns : goal.returns
 returns g c =
     let M = g.M.Model.means c.args.model.now in
-    let T = begun M c.look_over.new.found c.start.new.rounds c.look_over.ensures c.start.ensures in
+    let T = begun M c.look_over.new.found c.start.new.rounds c.classes-self.result c.classes-self.ensures c.look_over.ensures c.start.ensures in
     let e = c.in_ok-size.ensures.0 in (
       record {
         admitted = c.in_ok-rows.ensures.0;

@@ -1,5 +1,6 @@
 use Rattle.std.proofs.Common.{refl, arith}
 use Rattle.std.proofs.lemmas.Bool.{both_ways}
+use Rattle.merger.specs.declared.partition.Partition.{Partition}
 use Rattle.merger.specs.declared.analysis.Analysis.{Analysis}
 use Rattle.merger.proofs.Rounding.{meant_bounded}
 use Rattle.merger.proofs.Promising.{tabled_settled}
@@ -21,33 +22,40 @@ returns-then-not-self-2 c =
 pub outlooks-rows-requires : goal.outlooks-rows-requires
 outlooks-rows-requires c =
     let B = meant_bounded _ _ (c.args.self.now.meant c.if-not-self.false) in
+    let P : Partition = c.args.self.now.rounds.partition in
+    let few = P.few in
+    let items = B.items in
     let w = c.below.ensures in
     record {
-      few = B.few;
-      groups = B.groups;
-      wanted = λ k h. ((w k).0 h).0;
-      inside = λ k h to m. B.moves k to ((w k).0 h).0 m;
-      closed = λ k l h b o. (w l).1 (b, omega (arith, B.few));
+      wanted = λ k h. omega (arith, ((w k).0 h).0);
+      inside = λ k h to m. omega (arith, B.moves k to ((w k).0 h).0 m);
+      closed = λ k l h b o. (w l).1 (omega arith, omega arith);
     }
 
 pub reduce-requires : goal.reduce-requires
 reduce-requires c =
     let B = meant_bounded _ _ (c.args.self.now.meant c.if-not-self.false) in
+    let P : Partition = c.args.self.now.rounds.partition in
+    let few = P.few in
+    let items = B.items in
     record {
       bounds = B;
-      rows = λ k i h o. outlook_low _ _ B k i ((c.outlooks-rows.ensures k ((c.below.ensures k).1 (h, omega (arith, B.few))) i).0 o);
+      rows = λ k i h o. outlook_low _ _ B k i ((c.outlooks-rows.ensures k ((c.below.ensures k).1 (h, omega arith)) i).0 o);
     }
 
 pub returns : goal.returns
 returns c =
     let a : Analysis = c.args.self.now in
     let B = meant_bounded _ _ (a.meant c.if-not-self.false) in
+    let P : Partition = a.rounds.partition in
+    let few = P.few in
+    let items = B.items in
     record {
       shut = λ e. absurd (both_ways _ e c.if-not-self.false);
       told = λ M r A. record {
         going = λ n. absurd (n ((tabled_settled M r a.found a.rounds A.tabled).0 c.if-not-self-2.false));
         settled = λ z. drawn_fills M r a.found a.rounds A.tabled c.if-not-self-2.false c.outlooks-rows.result
-            (λ k h. c.outlooks-rows.ensures k ((c.below.ensures k).1 (h, omega (arith, B.few)))) c.reduce.result c.reduce.ensures;
+            (λ k h. c.outlooks-rows.ensures k ((c.below.ensures k).1 (h, omega arith))) c.reduce.result c.reduce.ensures;
       };
       refused = tt;
     }

@@ -29,7 +29,7 @@ returns c =
           let B = (c.step.ensures.more M r A).tabled in
           record {
             settled = λ z. absurd (both_ways _ c.if-self.false ((tabled_settled M r a.found a.rounds A.tabled).1 z));
-            made = λ going. (B.made, (class_of b.found b.rounds, B.classes), tabled_settled M _ b.found b.rounds B);
+            made = λ going. (B.made, (class_of b.found b.rounds, rw c.classes.ensures B.classes), tabled_settled M _ b.found b.rounds B);
           };
       refused = tt;
       continues = continues_step a b c.if-self.false c.step.ensures.more;

@@ -17,8 +17,8 @@ returns c =
             components = (part a.found, T.surveyed.components);
             labels = T.labels;
             rounds = T.made;
-            classes = (class_of a.found a.rounds, T.classes);
+            classes = (class_of a.found a.rounds, rw c.classes.ensures T.classes);
             settled = tabled_settled M r a.found a.rounds T;
           };
-      same = (refl, refl);
+      same = (refl, c.classes.ensures);
     }

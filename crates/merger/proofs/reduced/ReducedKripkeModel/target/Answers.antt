@@ -1,21 +1,25 @@
-use Rattle.std.proofs.Common.{ltb, sym, ap, ◌∙◌, arith}
+use Rattle.std.proofs.Common.{◌≡◌, ltb, sym, ap, ◌∙◌, arith, rules}
 use Rattle.std.proofs.lemmas.Bool.{cond-true, lt-ltb}
+use Rattle.std.proofs.lemmas.Option.{slice_get_within, get_or_from_slice_get}
 use Rattle.sets.specs.Sets.{members}
 use Rattle.sets.proofs.Members.{members_small}
 use Rattle.kripke.specs.Models.{move}
 use Rattle.merger.specs.Grids.{set_at}
-use Rattle.merger.proofs.Drawing.{nth-at, nth-move}
+use Rattle.merger.proofs.Drawing.{move-slice_get}
 use Rattle.merger.proofs.reduced.ReducedKripkeModel.target.Goals as goal
 
-pub overflow_cast-result : goal.overflow_cast-result
-overflow_cast-result c =
+pub map-requires : goal.map-requires
+map-requires c t e w r =
     let x = set_at c.args.self.now.moves c.args.s in
-    let p = nth-at (members x) c.args.k c.in-Some.t c.in-Some.ensures in
-    omega (arith, members_small x c.args.k 0 p.0, p.1)
+    let k = c.args.k in
+    let here = sym c.nth.ensures ∙ e in
+    let low = members_small x k 0 (slice_get_within (members x) k t here) in
+    omega (arith, get_or_from_slice_get (members x) k t 0 here, low)
 
-pub returns-in-Some : goal.returns-in-Some
-returns-in-Some c =
+pub returns : goal.returns
+returns c =
     let a = c.args.self.now in
     let row = members (set_at a.moves c.args.s) in
-    nth-move row c.args.k c.in-Some.t c.in-Some.ensures
+    let same : c.map.result ≡ c.nth.result = search (rules, c.map.ensures) in
+    same ∙ c.nth.ensures ∙ move-slice_get row c.args.k
     ∙ ap (λ r. move r c.args.k) (sym (cond-true (ltb c.args.s a.states) row _ (lt-ltb c.args.s a.states c.if-s-self.false)))

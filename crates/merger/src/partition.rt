@@ -1,0 +1,192 @@
+//! Items in classes: the states of a model in components, and the components in classes. The classes are numbered by first
+//! item: item 0 is in class 0, and each later item is in the class of an earlier one or opens the next.
+ghost use Rattle.std.specs.Prelude.{◌≡◌, ℕ, ◌+◌, ◌<◌, ◌≤◌, ◌↔◌, ◌≢◌, max, MatchOption};
+ghost use Rattle.sets.specs.Sets.{In};
+ghost use Rattle.kripke.specs.Numbering.{First, Ranked, Numbering};
+ghost use Rattle.merger.specs.Grids.{at, set_at, Groups, Several, Same, Like};
+
+use sets::Set;
+
+// The items below `len` in classes.
+#[derive(Drop)]
+pub(crate) struct Partition {
+    len: usize,
+    classes: usize,
+    // of each item: its class
+    class: [u8; 128],
+    // of each class: its items
+    members: [Set; 128],
+    ghost few: { len ≤ 128 },
+    ghost most: { classes ≤ len },
+    ghost groups: { Groups members class len },
+    ghost low: { (k : ℕ) → k < len → at class k < classes },
+    ghost some: { (c : ℕ) → c < classes → (set_at members c).bits ≢ 0 },
+}
+
+// The item in `heads` that has this row, if there is one.
+fn find_like(heads: Set, rows: &[Set; 128], row: Set) -> Option<usize>
+    ensures { MatchOption result ((j : ℕ) → In heads j → Same (set_at rows.now j) row → ⊥) (λ j. In heads j × Same (set_at rows.now j) row) }
+{
+    heads.into_iter().find(|&j| rows[j].same(row))
+}
+
+// The items below `len`, those together that are of one class and have the same row.
+fn part(rows: &[Set; 128], class: &[u8; 128], len: usize) -> Partition
+    requires few { len ≤ 128 }
+    requires low { (k : ℕ) → k < len → at class.now k < 128 }
+    ensures len { result.len ≡ len }
+    ensures numbers { Numbering (Like rows.now class.now) len (at result.class) result.classes }
+{
+    let mut parted = Partition::new();
+    // of each old class: the first item of each new class in it
+    let mut heads = [Set::NONE; 128];
+    for k in 0..len {
+        let own = class[k] as usize;
+        let into = match find_like(heads[own], rows, rows[k]) {
+            Some(j) => parted.class_of(j),
+            None => {
+                heads[own] = heads[own].with(k);
+                parted.classes()
+            }
+        };
+        parted.put(into);
+    }
+    parted
+}
+
+impl Partition {
+    // Without items.
+    pub(crate) fn new() -> Partition
+        ensures { (result.len ≡ 0) × (result.classes ≡ 0) }
+    {
+        Partition {
+            len: 0,
+            classes: 0,
+            class: [0; 128],
+            members: [Set::NONE; 128],
+        }
+    }
+
+    // The items below `len`, in the classes that their numbers name.
+    pub(crate) fn numbered(number: &[u8; 128], len: usize) -> Partition
+        requires few { len ≤ 128 }
+        requires ranked { (m : ℕ) × Ranked len (at number.now) m }
+        ensures len { result.len ≡ len }
+        ensures same { (k : ℕ) → k < len → at result.class k ≡ at number.now k }
+        ensures ranked { Ranked len (at result.class) result.classes }
+    {
+        let mut numbered = Partition::new();
+        for k in 0..len {
+            numbered.put(number[k] as usize);
+        }
+        numbered
+    }
+
+    // The items below `len`, those together that have the same row.
+    pub(crate) fn by_rows(rows: &[Set; 128], len: usize) -> Partition
+        requires { len ≤ 128 }
+        ensures len { result.len ≡ len }
+        ensures numbers { Numbering (λ j k. Same (set_at rows.now j) (set_at rows.now k)) len (at result.class) result.classes }
+    {
+        part(rows, &[0; 128], len)
+    }
+
+    // The same items, those of a class together that have the same row.
+    pub(crate) fn refined(&self, rows: &[Set; 128]) -> Partition
+        ensures len { result.len ≡ self.now.len }
+        ensures numbers { Numbering (Like rows.now self.now.class) self.now.len (at result.class) result.classes }
+    {
+        part(rows, &self.class, self.len)
+    }
+
+    // Puts the next item into a class that there is, or into the next.
+    fn put(&mut self, class: usize)
+        requires room { self.old.len < 128 }
+        requires class { class ≤ self.old.classes }
+        ensures len { self.new.len ≡ self.old.len + 1 }
+        ensures classes { self.new.classes ≡ max self.old.classes (class + 1) }
+        ensures last { at self.new.class self.old.len ≡ class }
+        ensures others { (k : ℕ) → k < self.old.len → at self.new.class k ≡ at self.old.class k }
+    {
+        self.class[self.len] = class as u8;
+        self.members[class] = self.members[class].with(self.len);
+        self.classes = self.classes.max(class + 1);
+        self.len += 1;
+    }
+
+    // How many items there are.
+    pub(crate) fn len(&self) -> usize
+        ensures { result ≡ self.now.len }
+    {
+        self.len
+    }
+
+    // How many classes there are.
+    pub(crate) fn classes(&self) -> usize
+        ensures { result ≡ self.now.classes }
+    {
+        self.classes
+    }
+
+    // The class of item `k`.
+    pub(crate) fn class_of(&self, k: usize) -> usize
+        requires { k < self.now.len }
+        ensures { result ≡ at self.now.class k }
+    {
+        self.class[k] as usize
+    }
+
+    // The items of class `c`.
+    pub(crate) fn members(&self, c: usize) -> Set
+        requires { c < self.now.classes }
+        ensures { result ≡ set_at self.now.members c }
+    {
+        self.members[c]
+    }
+
+    // The first item of class `c`.
+    pub(crate) fn first(&self, c: usize) -> usize
+        requires { c < self.now.classes }
+        ensures { First self.now.len (at self.now.class) c result }
+    {
+        let (first, _) = self.members[c].split_first().unwrap();
+        first
+    }
+
+    // The items that share the class of item `k`, itself among them.
+    pub(crate) fn group_of(&self, k: usize) -> Set
+        requires { k < self.now.len }
+        ensures { (j : ℕ) → In result j ↔ ((j < self.now.len) × (at self.now.class j ≡ at self.now.class k)) }
+    {
+        self.members[self.class_of(k)]
+    }
+
+    // The classes of some items.
+    pub(crate) fn classes_of(&self, items: Set) -> Set
+        requires { (k : ℕ) → In items k → k < self.now.len }
+        ensures { (c : ℕ) → In result c ↔ ((k : ℕ) × In items k × (at self.now.class k ≡ c)) }
+    {
+        let mut all = Set::NONE;
+        let mut left = items;
+        while let Some((k, rest)) = left.split_first() {
+            let class = self.class_of(k);
+            all = all.with(class);
+            // one look for each class: its other items tell nothing new
+            left = rest.minus(self.members[class]);
+        }
+        all
+    }
+
+    // The items that share their class with another.
+    pub(crate) fn shared(&self) -> Set
+        ensures { (k : ℕ) → In result k ↔ ((c : ℕ) × (c < self.now.classes) × Several (set_at self.now.members c) × In (set_at self.now.members c) k) }
+    {
+        let mut all = Set::NONE;
+        for c in 0..self.classes {
+            if self.members[c].several() {
+                all = all.or(self.members[c]);
+            }
+        }
+        all
+    }
+}
