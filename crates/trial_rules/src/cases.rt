@@ -79,26 +79,26 @@ impl Cases {
             targets,
         };
         let wanted = rows(heap, labels, offsets, targets)?;
-        self.differences.add_if(usize::from(model.size()) != wanted.len());
-        for (s, row) in (0u16..).zip(&wanted) {
-            let told = (0..model.degree(s)).map(|k| model.target(s, k));
-            let meant = row.iter().map(|target| Some(*target));
-            self.differences.add_if(!told.eq(meant));
-        }
+        self.questions(&model, &wanted);
         for (walks, states) in (0..3).cartesian_product(0..3) {
             self.opened(&model, &wanted, walks, states);
         }
         Ok(())
     }
 
-    // What open says of a listed model with so many walk records and state numbers.
-    fn opened(
-        &mut self,
-        model: &Listed<'_, Facts>,
-        rows: &[Vec<u16>],
-        walks: usize,
-        states: usize,
-    ) {
+    // What a model says of its rows.
+    fn questions<M: Model>(&mut self, model: &M, rows: &[Vec<u16>]) {
+        self.differences
+            .add_if(usize::from(model.size()) != rows.len());
+        for (s, row) in (0u16..).zip(rows) {
+            let told = (0..model.degree(s)).map(|k| model.target(s, k));
+            let meant = row.iter().map(|target| Some(*target));
+            self.differences.add_if(!told.eq(meant));
+        }
+    }
+
+    // What open says of a model with so many walk records and state numbers.
+    fn opened<M: Model>(&mut self, model: &M, rows: &[Vec<u16>], walks: usize, states: usize) {
         let (mut records, mut numbers) = ([Walk::BLANK; 2], [7; 2]);
         let (Some(lent), Some(scratch)) = (records.get_mut(0..walks), numbers.get_mut(0..states))
         else {
@@ -109,7 +109,8 @@ impl Cases {
         self.count(wanted.is_some());
         let told = opened.err().map(|why| Told::from(why.numbers()));
         self.differences.add_if(told != wanted);
-        self.differences.add_if(wanted.is_some() && numbers != [7; 2]);
+        self.differences
+            .add_if(wanted.is_some() && numbers != [7; 2]);
     }
 
     /// A list of steps, on a model of two states, with so many marks.
@@ -180,20 +181,15 @@ impl Cases {
             &mut [Walk::BLANK; 3],
             &mut [0; 3],
         );
-        let rows = rows(
-            heap,
-            tables.labels.len(),
-            &tables.offsets,
-            &tables.targets,
-        )?;
+        let rows = rows(heap, tables.labels.len(), &tables.offsets, &tables.targets)?;
         let refusal = open_refusal(&rows, 3, 3);
-        self.differences.add_if(loaded.is_err() != refusal.is_some());
+        self.differences
+            .add_if(loaded.is_err() != refusal.is_some());
         self.differences
             .add_if(!offsets.starts_with(&tables.offsets));
         self.differences
             .add_if(!targets.starts_with(&tables.targets));
-        self.differences
-            .add_if(!labels.starts_with(&tables.labels));
+        self.differences.add_if(!labels.starts_with(&tables.labels));
         let mut copy = [0xEE; 8];
         let len = save(&tables.listed(), &mut copy).unwrap_or(0);
         self.differences.add_if(copy.get(0..len) != Some(bytes));

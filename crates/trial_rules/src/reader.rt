@@ -106,9 +106,7 @@ pub fn read(heap: Global, bytes: &[u8], room: Room) -> Result<Plain, Problem> {
     if count > room.labels || count >= room.offsets {
         return fault(5, 0);
     }
-    let labels: Vec<u64> = (0..count)
-        .map(|_| reader.number())
-        .try_collect::<Vec<u64>, Problem>(heap)?;
+    let labels: Vec<u64> = (0..count).map(|_| reader.number()).try_collect(heap)?;
     let mut states = Vec::new(heap);
     for label in labels {
         let moves = reader.row(count)?;
