@@ -15,3 +15,16 @@ pub fn lists<T: Clone + Drop>(
     }
     Ok(all)
 }
+
+/// Every list of up to `most` items of an alphabet.
+pub fn lists_up_to<T: Clone + Drop>(
+    heap: Global,
+    alphabet: &[T],
+    most: usize,
+) -> Result<Vec<Vec<T>>, AllocError> {
+    let mut all = Vec::new(heap);
+    for len in 0..=most {
+        all.append(&mut lists(heap, alphabet, len)?)?;
+    }
+    Ok(all)
+}

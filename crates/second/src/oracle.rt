@@ -123,12 +123,10 @@ impl Plain {
         Relation::between(heap, &self.states, |one, two| one.label == two.label)
     }
 
-    // Whether a set holds a cycle: a state that is reached again from where it moves to, by moves inside the set.
+    // Whether a set holds a cycle: a state that is reached again from those that it moves to, by moves inside the set.
     fn cycles(&self, heap: Global, set: &States) -> Result<bool, AllocError> {
-        for s in set {
-            let one = States::from_array(heap, [*s])?;
-            let moved = self.after(heap, &one)?;
-            if self.reached(heap, &moved, set)?.contains(s) {
+        for (s, state) in (0u16..).zip(&self.states) {
+            if set.contains(&s) && self.reached(heap, &state.moves, set)?.contains(&s) {
                 return Ok(true);
             }
         }

@@ -79,23 +79,23 @@ impl Dice {
 
 // The states that a total model of `size` states with one word may have.
 fn possible_states(heap: Global, size: u16) -> Result<Vec<State>, AllocError> {
-    let mut states = Vec::new(heap);
     // the empty row comes first
-    for row in (0..size).powerset(heap)?.skip(1) {
-        let row = row?;
-        for label in 0..2 {
-            let moves = row.iter().copied().collect(heap)?;
-            states.push(State { label, moves })?;
-        }
+    let rows: Vec<Vec<u16>> = (0..size).powerset(heap)?.skip(1).try_collect(heap)?;
+    let mut states = Vec::new(heap);
+    for (label, row) in (0..2).cartesian_product(&rows) {
+        let moves = row.iter().copied().collect(heap)?;
+        states.push(State { label, moves })?;
     }
     Ok(states)
 }
 
-/// Every total model of `size` states with one word.
-pub fn small_models(heap: Global, size: u16) -> Result<Vec<Plain>, AllocError> {
-    let possible = possible_states(heap, size)?;
-    lists(heap, &possible, usize::from(size))?
-        .into_iter()
-        .map(|states| Plain { states })
-        .collect(heap)
+/// Every total model of up to `most` states with one word.
+pub fn small_models(heap: Global, most: u16) -> Result<Vec<Plain>, AllocError> {
+    let mut models = Vec::new(heap);
+    for size in 1..=most {
+        let possible = possible_states(heap, size)?;
+        let all = lists(heap, &possible, usize::from(size))?;
+        models.extend(all.into_iter().map(|states| Plain { states }))?;
+    }
+    Ok(models)
 }

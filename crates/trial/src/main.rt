@@ -22,10 +22,8 @@ It takes no arguments: with any, as help, it prints this text.
 // Every total model of up to three states with one word.
 fn all_small(heap: Global) -> Result<Tally, AllocError> {
     let mut tally = Tally::default();
-    for size in 1..4 {
-        for model in small_models(heap, size)? {
-            tally.compare(heap, &model)?;
-        }
+    for model in small_models(heap, 3)? {
+        tally.compare(heap, &model)?;
     }
     Ok(tally)
 }

@@ -3,6 +3,7 @@ use checker::steps::Step;
 use std::alloc::{AllocError, Global};
 
 /// What a refusal tells: its cause; the state, the step or the byte; and the number of a move, each 0 where there is none.
+// Kept: causes are numbers, as the rules tell them; an enum would need its own table of them, beside the one that is tested.
 #[derive(Clone, Copy, Debug, PartialEq, Eq)]
 pub struct Told {
     pub cause: u8,

@@ -4,7 +4,7 @@ use checker::steps::Step;
 use itertools::Itertools;
 use models::facts::Facts;
 use models::listed::Listed;
-use second::lists::lists;
+use second::lists::lists_up_to;
 use std::alloc::{AllocError, Global};
 
 // The steps, with the last word that there is and the first that there is not.
@@ -21,28 +21,14 @@ const STEPS: [Step; 7] = [
 // Small numbers, and bytes that a longer number begins with.
 const BYTES: [u8; 6] = [0, 1, 2, 3, 0x80, 0x81];
 
-// Tables of so many labels, of offsets, and of up to two targets with entries below 3.
-fn all_targets(
-    heap: Global,
-    cases: &mut Cases,
-    labels: usize,
-    offsets: &[u32],
-) -> Result<(), AllocError> {
-    for len in 0..3 {
-        for targets in lists(heap, &[0, 1, 2], len)? {
-            cases.tables(heap, labels, offsets, &targets)?;
-        }
-    }
-    Ok(())
-}
-
 /// Tables of up to two labels, three offsets and two targets with entries below 3.
 pub fn all_tables(heap: Global) -> Result<Cases, AllocError> {
     let mut cases = Cases::default();
-    for (labels, len) in (0..3).cartesian_product(0..4) {
-        for offsets in lists(heap, &[0, 1, 2], len)? {
-            all_targets(heap, &mut cases, labels, &offsets)?;
-        }
+    let offsets = lists_up_to(heap, &[0, 1, 2], 3)?;
+    let targets = lists_up_to(heap, &[0, 1, 2], 2)?;
+    let sizes = (0..3).cartesian_product(&offsets);
+    for ((labels, offsets), targets) in sizes.cartesian_product(&targets) {
+        cases.tables(heap, labels, offsets, targets)?;
     }
     Ok(cases)
 }
@@ -55,10 +41,9 @@ pub fn all_steps(heap: Global) -> Result<Cases, AllocError> {
         targets: &[1, 0],
     };
     let mut cases = Cases::default();
-    for (len, marks) in (0..4).cartesian_product(0..3) {
-        for steps in lists(heap, &STEPS, len)? {
-            cases.steps(&pair, &steps, marks);
-        }
+    let short = lists_up_to(heap, &STEPS, 3)?;
+    for (steps, marks) in short.iter().cartesian_product(0..3) {
+        cases.steps(&pair, steps, marks);
     }
     let long = [Step::True; 65];
     cases.steps(&pair, &long[..64], 2);
@@ -69,10 +54,8 @@ pub fn all_steps(heap: Global) -> Result<Cases, AllocError> {
 /// Files of up to six bytes from an alphabet of six.
 pub fn all_files(heap: Global) -> Result<Cases, AllocError> {
     let mut cases = Cases::default();
-    for len in 0..7 {
-        for file in lists(heap, &BYTES, len)? {
-            cases.file(heap, &file)?;
-        }
+    for file in lists_up_to(heap, &BYTES, 6)? {
+        cases.file(heap, &file)?;
     }
     Ok(cases)
 }
