@@ -75,13 +75,9 @@ fn polls_are_listed(rt: HostRuntime) -> Result<(), Fail> {
 fn fault(file: &[u8], scratch: usize) -> Option<(FaultNumbers, bool)> {
     let mut analysis = Analysis::new();
     let mut tables = BLANK;
-    let Err(why) = taken(&mut analysis, &mut tables, file, scratch) else {
-        return None;
-    };
-    if analysis.class(0) != Err(Refusal::NothingOpened) {
-        return None;
-    }
-    Some((why.numbers(), tables.offsets != BLANK.offsets))
+    let why = taken(&mut analysis, &mut tables, file, scratch).err()?;
+    let opened = analysis.class(0) != Err(Refusal::NothingOpened);
+    (!opened).then_some((why.numbers(), tables.offsets != BLANK.offsets))
 }
 
 #[test]

@@ -6,7 +6,7 @@ use merger::answers::{OpenRefusal, Opened, Refusal};
 use models::facts::Facts;
 use models::listed::Listed;
 use std::test::Fail;
-use survey::gaps::Gap;
+use survey::gaps::{Gap, GapNumbers};
 
 #[test]
 fn polls_and_chain_open(rt: HostRuntime) -> Result<(), Fail> {
@@ -33,28 +33,19 @@ fn polls_and_chain_open(rt: HostRuntime) -> Result<(), Fail> {
     Ok(())
 }
 
-// The cause, the state and the move of a refusal that leaves the analysis of polls and the state numbers as they were.
-fn refusal(model: &Listed<'_, Facts>, walks: usize, numbers: usize) -> Option<(u8, u16, u16)> {
+// The numbers of a refusal that leaves the analysis of polls and the state numbers as they were.
+fn refusal(model: &Listed<'_, Facts>, walks: usize, numbers: usize) -> Option<GapNumbers> {
     let mut analysis = Analysis::new();
-    let Ok(_) = open(&mut analysis, &polls()) else {
-        return None;
-    };
+    let _opened = open(&mut analysis, &polls()).ok()?;
     let mut records = [Walk::BLANK; 3];
     let mut states = [7; 3];
-    let (Some(lent), Some(scratch)) = (records.get_mut(0..walks), states.get_mut(0..numbers)) else {
-        return None;
-    };
-    let Err(why) = analysis.open(model, lent, scratch) else {
-        return None;
-    };
-    if states != [7; 3]
-        || analysis.class(4) != Ok(0)
-        || analysis.class(5) != Err(Refusal::NoState(5))
-    {
-        return None;
-    }
-    let told = why.numbers();
-    Some((told.cause, told.place, told.number))
+    let lent = records.get_mut(0..walks)?;
+    let scratch = states.get_mut(0..numbers)?;
+    let why = analysis.open(model, lent, scratch).err()?;
+    let left = states == [7; 3]
+        && analysis.class(4) == Ok(0)
+        && analysis.class(5) == Err(Refusal::NoState(5));
+    left.then_some(why.numbers())
 }
 
 #[test]
@@ -82,26 +73,23 @@ fn refusals_in_order(rt: HostRuntime) -> Result<(), Fail> {
             offsets,
             targets: &targets,
         };
-        assert_eq!(rt;
-            refusal(&model, walks, numbers),
-            Some((cause, place, number))
-        );
+        let told = GapNumbers {
+            cause,
+            place,
+            number,
+        };
+        assert_eq!(rt; refusal(&model, walks, numbers), Some(told));
     }
     Ok(())
 }
 
 // Each of `n` states moves to itself.
-fn count_opened(rt: &HostRuntime, n: usize) -> Result<Result<Opened, OpenRefusal>, Fail> {
-    let labels = vec![in rt.alloc(); Facts::NONE; n]?;
-    let mut offsets = Vec::new(rt.alloc());
-    let mut targets = Vec::new(rt.alloc());
-    for s in 0..n {
-        offsets.push(u32::try_from(s)?)?;
-        targets.push(u16::try_from(s)?)?;
-    }
-    offsets.push(u32::try_from(n)?)?;
-    let mut walks = vec![in rt.alloc(); Walk::BLANK; n]?;
-    let mut states = vec![in rt.alloc(); 0; n]?;
+fn count_opened(rt: &HostRuntime, n: u16) -> Result<Result<Opened, OpenRefusal>, Fail> {
+    let labels = vec![in rt.alloc(); Facts::NONE; usize::from(n)]?;
+    let offsets: Vec<u32> = (0..=u32::from(n)).collect(rt.alloc())?;
+    let targets: Vec<u16> = (0..n).collect(rt.alloc())?;
+    let mut walks = vec![in rt.alloc(); Walk::BLANK; usize::from(n)]?;
+    let mut states = vec![in rt.alloc(); 0; usize::from(n)]?;
     let model = Listed {
         labels: &labels,
         offsets: &offsets,

@@ -1,4 +1,5 @@
 //! Files written a call at a time: each refusal in its order, which hands the writing back and leaves the buffer.
+use crate::long::long_label;
 use modelfile::LONGEST;
 use models::facts::Facts;
 use std::process::Abort;
@@ -98,16 +99,11 @@ fn example_and_each_shorter_buffer(rt: HostRuntime) -> Result<(), Fail> {
     Ok(())
 }
 
-// Begins in so many of three bytes: the cause of a refusal (0 where there are fewer), and what the bytes then are.
+// Begins in so many of three bytes: the cause of a refusal, and what the bytes then are.
 fn begun(states: u16, space: usize) -> (Option<u8>, [u8; 3]) {
     let mut buffer = [0xEE; 3];
-    let Some(lent) = buffer.get_mut(0..space) else {
-        return (Some(0), buffer);
-    };
-    match begin(lent, states) {
-        Ok(_) => (None, buffer),
-        Err(fault) => (Some(fault.cause()), buffer),
-    }
+    let begun = begin(&mut buffer[..space.min(3)], states);
+    (begun.err().map(|fault| fault.cause()), buffer)
 }
 
 #[test]
@@ -194,14 +190,7 @@ fn longest_by_rows(rt: HostRuntime) -> Result<(), Fail> {
     let mut buffer = vec![in rt.alloc(); 0xEE; LONGEST + 9]?;
     let mut sets = begin(&mut buffer, 4096)?;
     for s in 0..4096 {
-        let bits = if s < 2730 {
-            u64::MAX
-        } else if s == 2730 {
-            1 << 21
-        } else {
-            0
-        };
-        sets = set(sets, &mut buffer, bits)?;
+        sets = set(sets, &mut buffer, long_label(s, 1 << 21))?;
     }
     let mut rows = sets.rows()?;
     for _row in 0..4095 {

@@ -6,6 +6,8 @@ mod calls;
 #[cfg(test)]
 mod loading;
 #[cfg(test)]
+mod long;
+#[cfg(test)]
 mod pieces;
 #[cfg(test)]
 mod saving;

@@ -1,4 +1,5 @@
 //! Files that are accepted, and each refusal with its place.
+use crate::long::long_label;
 use codec::numbers::{NumberFault, write_number};
 use modelfile::LONGEST;
 use modelfile::faults::{FileFault, TextFault};
@@ -105,15 +106,8 @@ fn longest_file(rt: HostRuntime) -> Result<(), Fail> {
     let mut labels = vec![in heap; Facts::NONE; 4096]?;
     let mut offsets = vec![in heap; 0; 4097]?;
     let mut at = write_number(4096, &mut file, 0).ok_or("room")?;
-    for s in 0..4096u64 {
-        let bits = if s < 2730 {
-            u64::MAX
-        } else if s == 2730 {
-            1 << 21
-        } else {
-            0
-        };
-        at = write_number(bits, &mut file, at).ok_or("room")?;
+    for s in 0..4096 {
+        at = write_number(long_label(s, 1 << 21), &mut file, at).ok_or("room")?;
     }
     assert_eq!(rt; at, LONGEST - 4096);
     let mut tables = Tables {

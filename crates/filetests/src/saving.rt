@@ -1,4 +1,5 @@
 //! Models of each kind saved: the file that loads again, and each refusal in its order, which leaves the buffer.
+use crate::long::long_label;
 use modelfile::LONGEST;
 use modelfile::reading::{Tables, load};
 use models::Model;
@@ -13,25 +14,21 @@ use std::test::Fail;
 use writing::protocol::WriteFault;
 use writing::saving::save;
 
-// The length of the file and a buffer that it was saved into, of which so many bytes were lent; or the cause of a refusal
-// that left the buffer, and 0 for one that did not.
-fn saved<M: Model>(model: &M, space: usize) -> Result<(usize, [u8; 24]), u8> {
+// The length of the file and a buffer that it was saved into, of which so many bytes were lent. A refusal leaves the buffer.
+fn saved<M: Model>(
+    rt: &impl Abort,
+    model: &M,
+    space: usize,
+) -> Result<(usize, [u8; 24]), WriteFault> {
     let mut buffer = [0xEE; 24];
-    let Some(lent) = buffer.get_mut(0..space) else {
-        return Err(0);
-    };
-    match save(model, lent) {
-        Ok(len) => Ok((len, buffer)),
-        Err(fault) => Err(if buffer == [0xEE; 24] {
-            fault.cause()
-        } else {
-            0
-        }),
-    }
+    let answer = save(model, &mut buffer[..space.min(24)]);
+    assert!(rt; answer.is_ok() || buffer == [0xEE; 24]);
+    Ok((answer?, buffer))
 }
 
-fn cause<M: Model>(model: &M, space: usize) -> Option<u8> {
-    saved(model, space).err()
+// The cause of a refusal.
+fn cause<M: Model>(rt: &impl Abort, model: &M, space: usize) -> Option<u8> {
+    Some(saved(rt, model, space).err()?.cause())
 }
 
 const LABELS: [Facts; 3] = [
@@ -55,7 +52,7 @@ fn small() -> Listed<'static, Facts> {
 
 #[test]
 fn saved_and_loaded(rt: HostRuntime) -> Result<(), Fail> {
-    let (len, file) = saved(&small(), 24)?;
+    let (len, file) = saved(&rt, &small(), 24)?;
     assert_eq!(rt;
         file,
         [
@@ -82,8 +79,8 @@ fn saved_and_loaded(rt: HostRuntime) -> Result<(), Fail> {
         offsets: &offsets,
         targets: &targets,
     };
-    assert_eq!(rt; saved(&again, 21), Ok((21, file)));
-    assert_eq!(rt; saved(&again, 20), Err(42));
+    assert_eq!(rt; saved(&rt, &again, 21), Ok((21, file)));
+    assert_eq!(rt; cause(&rt, &again, 20), Some(42));
     Ok(())
 }
 
@@ -111,12 +108,12 @@ fn other_kinds_saved(rt: HostRuntime) -> Result<(), Fail> {
         },
     };
     // the words 0, 1 and 4 hold at night; the dome's states follow, and the first of them rests
-    let (len, file) = saved(&both, 10)?;
+    let (len, file) = saved(&rt, &both, 10)?;
     assert_eq!(rt; len, 10);
     assert!(rt; file[0..11] == [3, 1, 19, 19, 1, 0, 1, 1, 1, 1, 0xEE][0..11]);
-    assert_eq!(rt; cause(&both, 9), Some(42));
+    assert_eq!(rt; cause(&rt, &both, 9), Some(42));
     // not rested, its row stays empty
-    let (len, file) = saved(&both.below, 24)?;
+    let (len, file) = saved(&rt, &both.below, 24)?;
     assert_eq!(rt; len, 9);
     assert!(rt; file[0..10] == [3, 1, 19, 19, 1, 0, 0, 1, 1, 0xEE][0..10]);
     Ok(())
@@ -134,15 +131,15 @@ fn no_states(rt: HostRuntime) {
         offsets: &OFFSETS[0..3],
         targets: &TARGETS,
     };
-    assert_eq!(rt; cause(&none, 0), Some(41));
-    assert_eq!(rt; cause(&malformed, 24), Some(41));
+    assert_eq!(rt; cause(&rt, &none, 0), Some(41));
+    assert_eq!(rt; cause(&rt, &malformed, 24), Some(41));
     let both = Rested {
         below: SideBySide {
             first: none,
             second: malformed,
         },
     };
-    assert_eq!(rt; cause(&both, 24), Some(41));
+    assert_eq!(rt; cause(&rt, &both, 24), Some(41));
 }
 
 // Two states whose rows have two moves and one.
@@ -166,7 +163,7 @@ fn refusals_in_their_order(rt: HostRuntime) {
             offsets: &[0, 2, 3],
             targets: &targets,
         };
-        assert_eq!(rt; cause(&listed, space), why);
+        assert_eq!(rt; cause(&rt, &listed, space), why);
     }
 }
 
@@ -182,8 +179,8 @@ fn other_kinds_refused(rt: HostRuntime) {
         second: stray,
     };
     // N and the labels take 15 bytes, the rows of the first model 2 + 2 + 4
-    assert_eq!(rt; cause(&both, 23), Some(45));
-    assert_eq!(rt; cause(&both, 22), Some(42));
+    assert_eq!(rt; cause(&rt, &both, 23), Some(45));
+    assert_eq!(rt; cause(&rt, &both, 22), Some(42));
 }
 
 // Saves 4,096 states without moves into so many bytes: 2,730 labels take ten bytes each, one has these bits, and the others
@@ -195,24 +192,19 @@ fn save_long(
     space: usize,
 ) -> Result<Result<usize, WriteFault>, Fail> {
     let mut buffer = vec![in heap; 0xEE; space]?;
-    let mut labels = vec![in heap; Facts::NONE; 4096]?;
+    let labels: Vec<Facts> = (0..4096)
+        .map(|s| Facts {
+            bits: long_label(s, bits),
+        })
+        .collect(heap)?;
     let offsets = vec![in heap; 0; 4097]?;
-    for (s, label) in labels.iter_mut().enumerate() {
-        if s < 2730 {
-            *label = Facts { bits: u64::MAX };
-        } else if s == 2730 {
-            *label = Facts { bits };
-        }
-    }
     let model = Listed {
         labels: &labels,
         offsets: &offsets,
         targets: &[],
     };
     let answer = save(&model, &mut buffer);
-    for left in buffer.iter().skip(LONGEST) {
-        assert_eq!(rt; *left, 0xEE);
-    }
+    assert!(rt; buffer.iter().skip(LONGEST).all(|left| *left == 0xEE));
     Ok(answer)
 }
 

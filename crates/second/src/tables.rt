@@ -1,5 +1,7 @@
-//! Plain models as the tables of a listed one, and where they come from: all small ones in order, and a seeded generator.
-use crate::oracle::Plain;
+//! Plain models as the tables of a listed one, and where they come from: all small ones, and a seeded generator.
+use crate::lists::lists;
+use crate::oracle::{Plain, State};
+use itertools::Itertools;
 use models::facts::Facts;
 use models::listed::Listed;
 use std::alloc::{AllocError, Global};
@@ -17,18 +19,13 @@ impl Tables {
     pub fn of(heap: Global, model: &Plain) -> Result<Tables, AllocError> {
         let mut tables = Tables {
             labels: Vec::new(heap),
-            offsets: Vec::new(heap),
+            offsets: vec![in heap; 0]?,
             targets: Vec::new(heap),
         };
-        let mut end: u32 = 0;
-        tables.offsets.push(end)?;
-        for s in 0..model.size() {
-            let bits = model.labels.get(s).copied().unwrap_or(0);
-            tables.labels.push(Facts { bits })?;
-            for t in model.moves(s) {
-                tables.targets.push(*t)?;
-                end = end.wrapping_add(1);
-            }
+        for state in &model.states {
+            tables.labels.push(Facts { bits: state.label })?;
+            tables.targets.extend(&state.moves)?;
+            let end = u32::try_from(tables.targets.len()).unwrap_or(u32::MAX);
             tables.offsets.push(end)?;
         }
         Ok(tables)
@@ -56,81 +53,49 @@ impl Dice {
         x ^= x >> 7;
         x ^= x.wrapping_mul(1 << 17);
         self.0 = x;
-        if limit == 0 { 0 } else { (x >> 11) % limit }
+        (x >> 11).checked_rem(limit).unwrap_or(0)
     }
-}
 
-/// How many total models of `size` states with one word there are, for a size of at most 3: two labels and each row but
-/// the empty one for each state.
-pub fn small_models(size: usize) -> u32 {
-    match size {
-        1 => 2,
-        2 => 36,
-        3 => 2744,
-        _ => 0,
-    }
-}
-
-/// Total model number `index` of `size` states with one word.
-pub fn small_model(heap: Global, size: usize, index: u32) -> Result<Plain, AllocError> {
-    let choices = match size {
-        1 => 1,
-        2 => 3,
-        _ => 7,
-    };
-    let mut rest = index;
-    let mut model = Plain {
-        labels: Vec::new(heap),
-        rows: Vec::new(heap),
-    };
-    for _s in 0..size {
-        model.labels.push(u64::from(rest % 2))?;
-        rest /= 2;
-    }
-    for _s in 0..size {
-        model.rows.push(subset(heap, size, rest % choices + 1)?)?;
-        rest /= choices;
-    }
-    Ok(model)
-}
-
-// The numbers below `size` whose bit is set.
-fn subset(heap: Global, size: usize, bits: u32) -> Result<Vec<u16>, AllocError> {
-    let mut row = Vec::new(heap);
-    let mut rest = bits;
-    let mut t: u16 = 0;
-    for _t in 0..size {
-        if rest % 2 == 1 {
-            row.push(t)?;
+    /// A total model of `size` states with words below `words`, where a row has each state once in `sparse` and at least one.
+    pub fn model(
+        &mut self,
+        heap: Global,
+        size: u16,
+        words: u64,
+        sparse: u64,
+    ) -> Result<Plain, AllocError> {
+        let mut states = Vec::new(heap);
+        for _s in 0..size {
+            let label = self.below(words);
+            let sure = self.below(u64::from(size));
+            let moves = (0..size)
+                .filter(|t| u64::from(*t) == sure || self.below(sparse) == 0)
+                .collect(heap)?;
+            states.push(State { label, moves })?;
         }
-        rest /= 2;
-        t = t.wrapping_add(1);
+        Ok(Plain { states })
     }
-    Ok(row)
 }
 
-/// A total model of `size` states with words below `words`, where a row has each state once in `sparse` and at least one.
-pub fn any_model(
-    heap: Global,
-    dice: &mut Dice,
-    size: u16,
-    words: u64,
-    sparse: u64,
-) -> Result<Plain, AllocError> {
-    let mut model = Plain {
-        labels: Vec::new(heap),
-        rows: Vec::new(heap),
-    };
-    for _s in 0..size {
-        model.labels.push(dice.below(words))?;
-        let sure = dice.below(size as u64);
-        let mut row = Vec::new(heap);
-        for t in 0..size {
-            if t as u64 == sure || dice.below(sparse) == 0 {
-                row.push(t)?;
-            }
-        }
-        model.rows.push(row)?;
+// The states that a total model of `size` states with one word may have.
+fn possible_states(heap: Global, size: u16) -> Result<Vec<State>, AllocError> {
+    // the empty row comes first
+    let rows: Vec<Vec<u16>> = (0..size).powerset(heap)?.skip(1).try_collect(heap)?;
+    let mut states = Vec::new(heap);
+    for (label, row) in (0..2).cartesian_product(&rows) {
+        let moves = row.iter().copied().collect(heap)?;
+        states.push(State { label, moves })?;
     }
-    Ok(model)
+    Ok(states)
+}
+
+/// Every total model of up to `most` states with one word.
+pub fn small_models(heap: Global, most: u16) -> Result<Vec<Plain>, AllocError> {
+    let mut models = Vec::new(heap);
+    for size in 1..=most {
+        let possible = possible_states(heap, size)?;
+        let all = lists(heap, &possible, usize::from(size))?;
+        models.extend(all.into_iter().map(|states| Plain { states }))?;
+    }
+    Ok(models)
 }

@@ -1,103 +1,54 @@
 //! The second engine's truth: where a formula holds, by search along paths as the definitions have them.
-use crate::oracle::{Plain, States, has};
+use crate::oracle::{Plain, States, states_where};
 use checker::steps::Step;
 use std::alloc::{AllocError, Global};
 
 impl Plain {
-    // Where word `a` holds.
-    fn word(&self, heap: Global, a: u8) -> Result<States, AllocError> {
-        let mut found = Vec::new(heap);
-        for label in self.labels.iter() {
-            found.push(a < 64 && (*label >> a) & 1 == 1)?;
-        }
-        Ok(found)
+    fn everywhere(&self, heap: Global) -> Result<States, AllocError> {
+        (0..self.size()).collect(heap)
     }
 
-    // Whether some state of a set moves into another set.
-    fn enters(&self, from: &[bool], into: &[bool]) -> bool {
-        for s in 0..self.size() {
-            if has(from, s) {
-                for t in self.moves(s) {
-                    if has(into, *t as usize) {
-                        return true;
-                    }
-                }
-            }
-        }
-        false
+    // Where word `a` holds.
+    fn word(&self, heap: Global, a: u8) -> Result<States, AllocError> {
+        states_where(heap, &self.states, |state| {
+            a < 64 && (state.label >> a) & 1 == 1
+        })
     }
 
     // Where some finite path ends with g and has f before: at once, or by moves inside f and one more into g.
-    fn until(&self, heap: Global, f: &[bool], g: &[bool]) -> Result<States, AllocError> {
-        let mut found = Vec::new(heap);
+    fn until(&self, heap: Global, f: &States, g: &States) -> Result<States, AllocError> {
+        let mut found = States::new(heap);
         for s in 0..self.size() {
-            let inside = self.reached(heap, s, f)?;
-            found.push(has(g, s) || self.enters(inside.as_slice(), g))?;
-        }
-        Ok(found)
-    }
-
-    // Where f holds and a move leads into a set.
-    fn stays(&self, heap: Global, f: &[bool], on: &[bool]) -> Result<States, AllocError> {
-        let mut found = Vec::new(heap);
-        for s in 0..self.size() {
-            let mut leads = false;
-            for t in self.moves(s) {
-                leads |= has(on, *t as usize);
+            let inside = self.reached(heap, &States::from_array(heap, [s])?, f)?;
+            if g.contains(&s) || !self.after(heap, &inside)?.is_disjoint(g) {
+                found.insert(s)?;
             }
-            found.push(has(f, s) && leads)?;
         }
         Ok(found)
     }
 
     // Where some path of as many moves as there are states has f at all its states.
-    fn globally(&self, heap: Global, f: &[bool]) -> Result<States, AllocError> {
-        let mut on = f.to_vec(heap)?;
-        for _turn in 0..self.size() {
-            on = self.stays(heap, f, on.as_slice())?;
+    fn globally(&self, heap: Global, f: &States) -> Result<States, AllocError> {
+        let mut on = f.clone()?;
+        for _turn in &self.states {
+            let leads = states_where(heap, &self.states, |state| !state.moves.is_disjoint(&on))?;
+            on = (f & &leads)?;
         }
         Ok(on)
     }
 
-    // Where either of two sets has a state.
-    fn either(&self, heap: Global, f: &[bool], g: &[bool]) -> Result<States, AllocError> {
-        let mut found = Vec::new(heap);
-        for s in 0..self.size() {
-            found.push(has(f, s) || has(g, s))?;
-        }
-        Ok(found)
-    }
-
-    fn negated(&self, heap: Global, f: &[bool]) -> Result<States, AllocError> {
-        let mut found = Vec::new(heap);
-        for s in 0..self.size() {
-            found.push(!has(f, s))?;
-        }
-        Ok(found)
-    }
-
     // What one step leaves on the stack of sets; a missing operand counts as the empty set.
     fn step(&self, heap: Global, stack: &mut Vec<States>, step: Step) -> Result<(), AllocError> {
+        let mut taken = || stack.pop().unwrap_or(States::new(heap));
         let made = match step {
-            Step::True => vec![in heap; true; self.size()]?,
+            Step::True => self.everywhere(heap)?,
             Step::Word(a) => self.word(heap, a)?,
-            Step::Not => {
-                let f = taken(heap, stack);
-                self.negated(heap, f.as_slice())?
-            }
-            Step::Globally => {
-                let f = taken(heap, stack);
-                self.globally(heap, f.as_slice())?
-            }
-            Step::Or => {
-                let g = taken(heap, stack);
-                let f = taken(heap, stack);
-                self.either(heap, f.as_slice(), g.as_slice())?
-            }
+            Step::Not => (&self.everywhere(heap)? - &taken())?,
+            Step::Globally => self.globally(heap, &taken())?,
+            Step::Or => (&taken() | &taken())?,
             Step::Until => {
-                let g = taken(heap, stack);
-                let f = taken(heap, stack);
-                self.until(heap, f.as_slice(), g.as_slice())?
+                let g = taken();
+                self.until(heap, &taken(), &g)?
             }
         };
         stack.push(made)?;
@@ -110,13 +61,6 @@ impl Plain {
         for step in steps {
             self.step(heap, &mut stack, *step)?;
         }
-        Ok(taken(heap, &mut stack))
-    }
-}
-
-fn taken(heap: Global, stack: &mut Vec<States>) -> States {
-    match stack.pop() {
-        Some(set) => set,
-        None => Vec::new(heap),
+        Ok(stack.pop().unwrap_or(States::new(heap)))
     }
 }

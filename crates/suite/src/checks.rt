@@ -16,17 +16,9 @@ fn marks_of(model: &Listed<'_, Facts>, steps: &[Step]) -> Result<[u8; 6], Refuse
 // The numbers of a refusal that leaves the marks.
 fn refusal(model: &Listed<'_, Facts>, steps: &[Step], count: usize) -> Option<Numbers> {
     let mut marks = [7; 3];
-    let Some(lent) = marks.get_mut(0..count) else {
-        return None;
-    };
-    let Err(why) = mark_states(model, steps, lent) else {
-        return None;
-    };
-    if marks == [7; 3] {
-        Some(why.numbers())
-    } else {
-        None
-    }
+    let lent = marks.get_mut(0..count)?;
+    let why = mark_states(model, steps, lent).err()?;
+    (marks == [7; 3]).then_some(why.numbers())
 }
 
 const POLLS: [Facts; 5] = [
@@ -119,15 +111,11 @@ fn refusals_of_models(rt: HostRuntime) {
 
 // Rising numbers, for offsets and for targets.
 fn count_up(offsets: &mut [u32], targets: &mut [u16]) {
-    let mut next = 0u32;
-    for offset in offsets.iter_mut() {
-        *offset = next;
-        next = next.wrapping_add(1);
+    for (offset, end) in offsets.iter_mut().zip(0..) {
+        *offset = end;
     }
-    let mut state = 0u16;
-    for target in targets.iter_mut() {
-        state = state.wrapping_add(1);
-        *target = state;
+    for (target, next) in targets.iter_mut().zip(1..) {
+        *target = next;
     }
 }
 

@@ -64,13 +64,11 @@ fn components_of_four_states(rt: HostRuntime) -> Result<(), Fail> {
         let found = find_components(&model, &mut [Walk::BLANK; 4], &mut [0; 4], &mut part)?;
         assert_eq!(rt; &part[0..4], &parts[0..4]);
         assert_eq!(rt; part[4], 200);
-        for i in 0..4 {
-            assert_eq!(rt; found.cyclic.has(i), cyclic[i]);
+        for (i, is_cyclic) in cyclic.into_iter().enumerate() {
+            assert_eq!(rt; found.cyclic.has(i), is_cyclic);
         }
-        assert_eq!(rt;
-            found.count,
-            parts[0].max(parts[1]).max(parts[2]).max(parts[3]) + 1
-        );
+        let count = parts.into_iter().max().map(|most| most + 1);
+        assert_eq!(rt; Some(found.count), count);
     }
     Ok(())
 }
@@ -97,8 +95,9 @@ fn components_of_128_states(rt: HostRuntime) -> Result<(), Fail> {
     let (ring, one) = parts_of_ring(rt.alloc(), 0)?;
     let (chain, all) = parts_of_ring(rt.alloc(), 127)?;
     assert_eq!(rt; (one, all), (1, 128));
-    for s in 0..128 {
-        assert_eq!(rt; (ring[s as usize], chain[s as usize]), (0, s));
+    assert_eq!(rt; ring, [0; 128]);
+    for (s, part) in (0..128).zip(chain) {
+        assert_eq!(rt; part, s);
     }
     // the last two are in one component
     let (most, two) = parts_of_ring(rt.alloc(), 126)?;

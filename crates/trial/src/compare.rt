@@ -1,120 +1,119 @@
 //! The merger held to the second engine: classes after every round, the counts, the reduced model, and truth on both models.
-use crate::formulas::{COUNT, formula};
+use crate::formulas::FORMULAS;
 use checker::check;
+use checker::steps::Step;
 use components::Walk;
 use merger::analysis::Analysis;
 use merger::answers::{Made, Opened};
 use merger::reduced::Reduced;
 use models::{Label, Model};
-use second::oracle::{Plain, Relation, has, numbered, same};
+use second::counts::Count;
+use second::oracle::{Plain, Relation};
 use second::tables::Tables;
 use std::alloc::{AllocError, Global};
+use std::fmt;
 
 /// What has been compared so far, and how often the engines differed.
-#[derive(Clone, Copy)]
+#[derive(Clone, Copy, Default)]
 pub struct Tally {
-    pub models: u32,
-    pub rounds: u32,
-    pub classes: u32,
-    pub truths: u32,
-    pub differences: u32,
+    models: Count,
+    rounds: Count,
+    classes: Count,
+    truths: Count,
+    differences: Count,
+}
+
+impl fmt::Display for Tally {
+    fn fmt<W: fmt::Write>(&self, f: &mut fmt::Formatter<W>) -> fmt::Result {
+        write!(
+            f,
+            "models {} rounds {} classes {} truths {} differences {}",
+            self.models, self.rounds, self.classes, self.truths, self.differences
+        )
+    }
 }
 
 impl Tally {
-    pub const NONE: Tally = Tally {
-        models: 0,
-        rounds: 0,
-        classes: 0,
-        truths: 0,
-        differences: 0,
-    };
-
-    fn expect(&mut self, holds: bool) {
-        if !holds {
-            self.differences = self.differences.wrapping_add(1);
-        }
-    }
-
     /// Compares the two engines on one model.
     pub fn compare(&mut self, heap: Global, plain: &Plain) -> Result<(), AllocError> {
+        self.models.add_one();
         let tables = Tables::of(heap, plain)?;
         let model = tables.listed();
         let mut analysis = Analysis::new();
-        self.models = self.models.wrapping_add(1);
-        let alike = plain.alike(heap)?;
         let opened = analysis.open(&model, &mut [Walk::BLANK; 128], &mut [0; 128]);
-        let (_, components) = numbered(heap, &plain.joined(heap)?)?;
-        let (_, labels) = numbered(heap, &alike)?;
-        match opened {
-            Ok(
-                Opened {
-                    states,
-                    components: found,
-                    labels: classes,
-                },
-            ) => {
-                self.expect(states as usize == plain.size());
-                self.expect(found == components as usize && classes == labels as usize);
-            }
-            Err(_) => self.expect(false),
+        let alike = plain.alike(heap)?;
+        let wanted = Opened {
+            states: plain.size(),
+            components: plain.joined(heap)?.classes(heap)?.len(),
+            labels: alike.classes(heap)?.len(),
+        };
+        self.differences.add_if(opened != Ok(wanted));
+        let mut pair = Pair {
+            heap,
+            plain,
+            analysis,
+            tally: self,
+        };
+        let settled = pair.compare_rounds(alike)?;
+        let mut reduced = Reduced::empty();
+        let filled = pair.analysis.reduced(&mut reduced);
+        pair.tally.differences.add_if(filled.is_err());
+        pair.compare_reduced(&reduced, &settled)?;
+        for formula in FORMULAS {
+            pair.compare_truth(&model, &reduced, formula)?;
         }
-        let settled = self.compare_rounds(heap, plain, &mut analysis, alike)?;
-        self.compare_reduced(heap, plain, &analysis, &settled)?;
-        self.compare_truth(heap, plain, &model, &analysis)
+        Ok(())
     }
+}
 
+// A model in both engines, and the tally of what is compared.
+#[derive(Drop)]
+struct Pair<'a> {
+    heap: Global,
+    plain: &'a Plain,
+    analysis: Analysis,
+    tally: &'a mut Tally,
+}
+
+impl Pair<'_> {
     // Rounds until the relation is the same as before, the classes held to each other before and after each.
-    fn compare_rounds(
-        &mut self,
-        heap: Global,
-        plain: &Plain,
-        analysis: &mut Analysis,
-        alike: Relation,
-    ) -> Result<Relation, AllocError> {
+    fn compare_rounds(&mut self, alike: Relation) -> Result<Relation, AllocError> {
         let mut relation = alike;
-        self.compare_classes(heap, plain, analysis, &relation)?;
-        for turn in 0..plain.size() {
-            let next = plain.refined(heap, &relation)?;
-            let over = same(&relation, &next);
-            let (_, count) = numbered(heap, &next)?;
+        self.compare_classes(&relation)?;
+        for rounds in 1..=self.plain.states.len() {
+            let next = self.plain.refined(self.heap, &relation)?;
+            let settled = next == relation;
             relation = next;
-            self.rounds = self.rounds.wrapping_add(1);
-            match analysis.round() {
-                Ok(
-                    Made {
-                        rounds,
-                        classes,
-                        settled,
-                    },
-                ) => {
-                    self.expect(rounds == turn + 1 && classes == count as usize && settled == over);
-                }
-                Err(_) => self.expect(false),
-            }
-            self.compare_classes(heap, plain, analysis, &relation)?;
-            if over {
+            let wanted = Made {
+                rounds,
+                classes: relation.classes(self.heap)?.len(),
+                settled,
+            };
+            let made = self.analysis.round();
+            self.tally.rounds.add_one();
+            self.tally.differences.add_if(made != Ok(wanted));
+            self.compare_classes(&relation)?;
+            if settled {
                 break;
             }
         }
-        self.expect(analysis.round().is_err());
+        let more = self.analysis.round();
+        self.tally.differences.add_if(more.is_ok());
         Ok(relation)
     }
 
     // The class of each state, and together at each pair.
-    fn compare_classes(
-        &mut self,
-        heap: Global,
-        plain: &Plain,
-        analysis: &Analysis,
-        relation: &Relation,
-    ) -> Result<(), AllocError> {
-        let (numbers, _) = numbered(heap, relation)?;
-        for (s, number) in numbers.iter().enumerate() {
-            self.classes = self.classes.wrapping_add(1);
-            self.expect(analysis.class(state(s)) == Ok(*number));
-            let partner = plain.size().wrapping_sub(s).wrapping_sub(1);
-            let joint = analysis.together(state(s), state(partner));
-            self.expect(joint == Ok(second::oracle::relates(relation, s, partner)));
+    fn compare_classes(&mut self, relation: &Relation) -> Result<(), AllocError> {
+        let classes = relation.classes(self.heap)?;
+        let size = self.plain.size();
+        for (s, partner) in (0..size).zip((0..size).rev()) {
+            self.tally.classes.add_one();
+            let number = classes.iter().position(|class| class.contains(&s));
+            let class = self.analysis.class(s).ok().map(usize::from);
+            self.tally.differences.add_if(class != number);
+            let joint = self.analysis.together(s, partner);
+            let related = relation.has(s, partner);
+            self.tally.differences.add_if(joint != Ok(related));
         }
         Ok(())
     }
@@ -122,56 +121,46 @@ impl Tally {
     // The reduced model: its words and its rows, from ST, NEXT and LOOP of the members.
     fn compare_reduced(
         &mut self,
-        heap: Global,
-        plain: &Plain,
-        analysis: &Analysis,
+        reduced: &Reduced,
         relation: &Relation,
     ) -> Result<(), AllocError> {
-        let mut reduced = Reduced::empty();
-        self.expect(analysis.reduced(&mut reduced).is_ok());
-        let wanted = plain.merged(heap, relation)?;
-        self.expect(reduced.size() as usize == wanted.size());
-        for c in 0..reduced.size() {
-            self.expect(
-                reduced.facts(c).bits == wanted.labels.get(c as usize).copied().unwrap_or(0),
-            );
-            self.expect(reduced.degree(c) as usize == wanted.moves(c as usize).len());
-            for (k, t) in wanted.moves(c as usize).iter().enumerate() {
-                self.expect(reduced.target(c, state(k)) == Some(*t));
-            }
+        let wanted = self.plain.merged(self.heap, relation)?;
+        self.tally
+            .differences
+            .add_if(reduced.size() != wanted.size());
+        for (c, state) in (0u16..).zip(&wanted.states) {
+            self.tally
+                .differences
+                .add_if(reduced.facts(c).bits != state.label);
+            let targets = (0..reduced.degree(c)).map(|k| reduced.target(c, k));
+            let moves = state.moves.iter().map(|t| Some(*t));
+            self.tally.differences.add_if(!targets.eq(moves));
         }
         Ok(())
     }
 
-    // Each formula at each state, and at its class in the reduced model.
+    // A formula at each state, and at its class in the reduced model.
     fn compare_truth<M: Model>(
         &mut self,
-        heap: Global,
-        plain: &Plain,
         model: &M,
-        analysis: &Analysis,
+        reduced: &Reduced,
+        formula: &[Step],
     ) -> Result<(), AllocError> {
-        let mut reduced = Reduced::empty();
-        let _ = analysis.reduced(&mut reduced);
-        for i in 0..COUNT {
-            let mut full = [2u8; 128];
-            let mut small = [2u8; 128];
-            self.expect(check(model, formula(i), &mut full).is_ok());
-            self.expect(check(&reduced, formula(i), &mut small).is_ok());
-            let truth = plain.truth(heap, formula(i))?;
-            for s in 0..plain.size() {
-                let mark = if has(truth.as_slice(), s) { 1 } else { 0 };
-                let class = analysis.class(state(s)).unwrap_or(128);
-                self.truths = self.truths.wrapping_add(1);
-                self.expect(full.get(s).copied() == Some(mark));
-                self.expect(small.get(class as usize).copied() == Some(mark));
-            }
+        let mut full = [2; 128];
+        let mut small = [2; 128];
+        let on_full = check(model, formula, &mut full);
+        self.tally.differences.add_if(on_full.is_err());
+        let on_small = check(reduced, formula, &mut small);
+        self.tally.differences.add_if(on_small.is_err());
+        let truth = self.plain.truth(self.heap, formula)?;
+        for (s, mark) in (0..self.plain.size()).zip(full) {
+            let wanted = u8::from(truth.contains(&s));
+            let class = self.analysis.class(s).unwrap_or(128);
+            self.tally.truths.add_one();
+            self.tally.differences.add_if(mark != wanted);
+            let at_class = small.get(usize::from(class));
+            self.tally.differences.add_if(at_class != Some(&wanted));
         }
         Ok(())
     }
-}
-
-// A state's number; what is too large for one is no state.
-fn state(s: usize) -> u16 {
-    u16::try_from(s).unwrap_or(u16::MAX)
 }

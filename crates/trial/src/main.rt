@@ -2,7 +2,7 @@
 #![tactic(auto)]
 
 use crate::compare::Tally;
-use second::tables::{Dice, any_model, small_model, small_models};
+use second::tables::{Dice, small_models};
 use std::alloc::{AllocError, Global};
 use std::{env, io};
 
@@ -20,49 +20,32 @@ It takes no arguments: with any, as help, it prints this text.
 ";
 
 // Every total model of up to three states with one word.
-fn all_small(heap: Global, tally: &mut Tally) -> Result<(), AllocError> {
-    for size in 1..4 {
-        for index in 0..small_models(size) {
-            tally.compare(heap, &small_model(heap, size, index)?)?;
-        }
+fn all_small(heap: Global) -> Result<Tally, AllocError> {
+    let mut tally = Tally::default();
+    for model in small_models(heap, 3)? {
+        tally.compare(heap, &model)?;
     }
-    Ok(())
+    Ok(tally)
 }
 
 // A fixed sample of larger models, sparse and dense, with one to four labels.
-fn sample(heap: Global, tally: &mut Tally) -> Result<(), AllocError> {
+fn sample(heap: Global) -> Result<Tally, AllocError> {
+    let mut tally = Tally::default();
     let mut dice = Dice(2026);
     for turn in 0..1000u64 {
         let size = 4 + (turn % 9) as u16;
-        tally.compare(
-            heap,
-            &any_model(heap, &mut dice, size, 1 + turn % 4, 1 + turn % 7)?,
-        )?;
+        let model = dice.model(heap, size, 1 + turn % 4, 1 + turn % 7)?;
+        tally.compare(heap, &model)?;
     }
-    Ok(())
-}
-
-fn print(rt: &HostRuntime, name: &str, tally: Tally) -> io::Result<()> {
-    let Tally {
-        models,
-        rounds,
-        classes,
-        truths,
-        differences,
-    } = tally;
-    println!(rt;
-        "{name}: models {models} rounds {rounds} classes {classes} truths {truths} differences {differences}"
-    )
+    Ok(tally)
 }
 
 fn main(rt: HostRuntime) -> io::Result<()> {
-    if env::args(&rt)?.skip(1).next().is_some() {
+    if env::args(&rt)?.nth(1).is_some() {
         return print!(rt; "{HELP}");
     }
-    let mut small = Tally::NONE;
-    all_small(rt.alloc(), &mut small)?;
-    print(&rt, "every model of up to three states", small)?;
-    let mut large = Tally::NONE;
-    sample(rt.alloc(), &mut large)?;
-    print(&rt, "a sample of four to twelve states", large)
+    let small = all_small(rt.alloc())?;
+    println!(rt; "every model of up to three states: {small}")?;
+    let large = sample(rt.alloc())?;
+    println!(rt; "a sample of four to twelve states: {large}")
 }

@@ -1,47 +1,67 @@
 //! The other cases of the rules: every small table, every small list of steps and every short file, held to the rules as
 //! they were read by hand.
 use crate::reader::{Problem, Room, read};
-use crate::rules::{check_refusal, open_refusal, rows};
+use crate::rules::{Told, check_refusal, open_refusal, rows};
 use checker::check;
 use checker::steps::Step;
 use components::Walk;
 use exchange::taking::take;
+use itertools::Itertools;
 use merger::analysis::Analysis;
 use modelfile::reading::{self, load};
 use models::Model;
 use models::facts::Facts;
 use models::listed::Listed;
+use second::counts::Count;
 use second::oracle::Plain;
 use second::tables::Tables;
 use std::alloc::{AllocError, Global};
+use std::fmt;
+use survey::gaps::GapNumbers;
 use writing::saving::save;
 
 /// What has been tried so far, how much of it was refused, and how often the rules said otherwise.
-#[derive(Clone, Copy)]
+#[derive(Clone, Copy, Default)]
 pub struct Cases {
-    pub tried: u32,
-    pub refused: u32,
-    pub differences: u32,
+    tried: Count,
+    refused: Count,
+    differences: Count,
+}
+
+impl fmt::Display for Cases {
+    fn fmt<W: fmt::Write>(&self, f: &mut fmt::Formatter<W>) -> fmt::Result {
+        write!(
+            f,
+            "tried {} refused {} differences {}",
+            self.tried, self.refused, self.differences
+        )
+    }
+}
+
+impl From<GapNumbers> for Told {
+    fn from(told: GapNumbers) -> Told {
+        Told {
+            cause: told.cause,
+            place: usize::from(told.place),
+            number: usize::from(told.number),
+        }
+    }
+}
+
+impl From<checker::Numbers> for Told {
+    fn from(told: checker::Numbers) -> Told {
+        Told {
+            cause: told.cause,
+            place: told.place,
+            number: usize::from(told.number),
+        }
+    }
 }
 
 impl Cases {
-    pub const NONE: Cases = Cases {
-        tried: 0,
-        refused: 0,
-        differences: 0,
-    };
-
-    fn expect(&mut self, holds: bool) {
-        if !holds {
-            self.differences = self.differences.wrapping_add(1);
-        }
-    }
-
     fn count(&mut self, refused: bool) {
-        self.tried = self.tried.wrapping_add(1);
-        if refused {
-            self.refused = self.refused.wrapping_add(1);
-        }
+        self.tried.add_one();
+        self.refused.add_if(refused);
     }
 
     /// A listed model by any tables: its questions, and what open refuses with so much scratch.
@@ -59,67 +79,56 @@ impl Cases {
             targets,
         };
         let wanted = rows(heap, labels, offsets, targets)?;
-        self.expect(model.size() as usize == wanted.len());
-        for (s, row) in (0u16..).zip(wanted.iter()) {
-            self.expect(model.degree(s) as usize == row.len());
-            for (k, target) in (0u16..).zip(row.iter()) {
-                self.expect(model.target(s, k) == Some(*target));
-            }
-        }
-        for scratch in 0..9 {
-            self.opened(&model, wanted.as_slice(), scratch / 3, scratch % 3);
+        self.questions(&model, &wanted);
+        for (walks, states) in (0..3).cartesian_product(0..3) {
+            self.opened(&model, &wanted, walks, states);
         }
         Ok(())
     }
 
-    // What open says of a listed model with so many walk records and state numbers.
-    fn opened(
-        &mut self,
-        model: &Listed<'_, Facts>,
-        rows: &[Vec<u16>],
-        walks: usize,
-        states: usize,
-    ) {
+    // What a model says of its rows.
+    fn questions<M: Model>(&mut self, model: &M, rows: &[Vec<u16>]) {
+        self.differences
+            .add_if(usize::from(model.size()) != rows.len());
+        for (s, row) in (0u16..).zip(rows) {
+            let told = (0..model.degree(s)).map(|k| model.target(s, k));
+            let meant = row.iter().map(|target| Some(*target));
+            self.differences.add_if(!told.eq(meant));
+        }
+    }
+
+    // What open says of a model with so many walk records and state numbers.
+    fn opened<M: Model>(&mut self, model: &M, rows: &[Vec<u16>], walks: usize, states: usize) {
         let (mut records, mut numbers) = ([Walk::BLANK; 2], [7; 2]);
         let (Some(lent), Some(scratch)) = (records.get_mut(0..walks), numbers.get_mut(0..states))
         else {
-            return self.expect(false);
+            return self.differences.add_one();
         };
-        let told = match Analysis::new().open(model, lent, scratch) {
-            Ok(_) => None,
-            Err(why) => Some(why.numbers()),
-        };
+        let opened = Analysis::new().open(model, lent, scratch);
         let wanted = open_refusal(rows, walks, states);
         self.count(wanted.is_some());
-        match (told, wanted) {
-            (None, None) => {}
-            (Some(found), Some((cause, place, number))) => {
-                self.expect(found.cause == cause && found.place == place && found.number == number);
-                self.expect(numbers == [7; 2]);
-            }
-            _ => self.expect(false),
-        }
+        let told = opened.err().map(|why| Told::from(why.numbers()));
+        self.differences.add_if(told != wanted);
+        self.differences
+            .add_if(wanted.is_some() && numbers != [7; 2]);
     }
 
     /// A list of steps, on a model of two states, with so many marks.
     pub fn steps<M: Model>(&mut self, model: &M, steps: &[Step], marks: usize) {
         let mut table = [7; 2];
         let Some(lent) = table.get_mut(0..marks) else {
-            return self.expect(false);
+            return self.differences.add_one();
         };
-        let told = match check(model, steps, lent) {
-            Ok(_) => None,
-            Err(why) => Some(why.numbers()),
-        };
+        let checked = check(model, steps, lent);
         let wanted = check_refusal(steps, 2, 64, marks);
         self.count(wanted.is_some());
-        match (told, wanted) {
-            (None, None) => self.expect(!table.contains(&7)),
-            (Some(found), Some((cause, place))) => {
-                self.expect(found.cause == cause && found.place == place && table == [7; 2]);
-            }
-            _ => self.expect(false),
-        }
+        let told = checked.err().map(|why| Told::from(why.numbers()));
+        self.differences.add_if(told != wanted);
+        self.differences.add_if(if wanted.is_some() {
+            table != [7; 2]
+        } else {
+            table.contains(&7)
+        });
     }
 
     /// A file: loaded, and saved again where it is accepted.
@@ -131,34 +140,35 @@ impl Cases {
         };
         match read(heap, bytes, room) {
             Ok(model) => self.accepted(heap, bytes, &model),
-            Err(Problem::Fault(cause, place)) => {
-                self.faulty(bytes, cause, place);
+            Err(Problem::Fault(told)) => {
+                self.faulty(bytes, told);
                 Ok(())
             }
             Err(Problem::Memory(error)) => Err(error),
         }
     }
 
-    fn faulty(&mut self, bytes: &[u8], cause: u8, place: usize) {
+    fn faulty(&mut self, bytes: &[u8], wanted: Told) {
         self.count(true);
         let (mut labels, mut offsets, mut targets) = ([Facts::NONE; 3], [9; 3], [9; 2]);
-        let layer = if cause < 3 { 1 } else { 2 };
+        let layer = if wanted.cause < 3 { 1 } else { 2 };
         let mut lent = reading::Tables {
             labels: &mut labels,
             offsets: &mut offsets,
             targets: &mut targets,
         };
         match load(bytes, &mut lent) {
-            Ok(_) => self.expect(false),
+            Ok(_) => self.differences.add_one(),
             Err(fault) => {
                 let told = fault.numbers();
-                self.expect(
-                    told.layer == layer
-                        && told.cause == cause
-                        && told.place == place
-                        && told.number == 0,
+                self.differences.add_if(
+                    told.layer != layer
+                        || told.cause != wanted.cause
+                        || told.place != wanted.place
+                        || told.number != 0,
                 );
-                self.expect(offsets == [9; 3] && targets == [9; 2]);
+                self.differences
+                    .add_if(offsets != [9; 3] || targets != [9; 2]);
             }
         }
     }
@@ -179,14 +189,18 @@ impl Cases {
             &mut [Walk::BLANK; 3],
             &mut [0; 3],
         );
-        let wanted = open_refusal(model.rows.as_slice(), 3, 3);
-        self.expect(loaded.is_ok() == wanted.is_none());
-        self.expect(offsets.get(0..tables.offsets.len()) == Some(tables.offsets.as_slice()));
-        self.expect(targets.get(0..tables.targets.len()) == Some(tables.targets.as_slice()));
-        self.expect(labels.get(0..tables.labels.len()) == Some(tables.labels.as_slice()));
+        let rows = rows(heap, tables.labels.len(), &tables.offsets, &tables.targets)?;
+        let refusal = open_refusal(&rows, 3, 3);
+        self.differences
+            .add_if(loaded.is_err() != refusal.is_some());
+        self.differences
+            .add_if(!offsets.starts_with(&tables.offsets));
+        self.differences
+            .add_if(!targets.starts_with(&tables.targets));
+        self.differences.add_if(!labels.starts_with(&tables.labels));
         let mut copy = [0xEE; 8];
         let len = save(&tables.listed(), &mut copy).unwrap_or(0);
-        self.expect(copy.get(0..len) == Some(bytes));
+        self.differences.add_if(copy.get(0..len) != Some(bytes));
         Ok(())
     }
 }
