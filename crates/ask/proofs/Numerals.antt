@@ -1,48 +1,30 @@
--- Numbers below 100 in one or two digits.
-use Rattle.std.proofs.Common.{◌≡◌, ℕ, ◌+◌, ◌/◌, ◌%◌, ◌<◌, ◌≤◌, ◌⊎◌, ◌↔◌, List, [], ◌∷◌, ◌++◌, length, get_or, Some, None, decimal, Option, sym, refl, ap, ◌∙◌, subst, inl, inr, ⊎_elim, arith}
+-- Numbers of words, as a text.
+use Rattle.std.proofs.Common.{◌≡◌, ℕ, ◌<◌, ◌≤◌, ◌↔◌, List, length, get_or, Result, Ok, decimal, sym, ◌∙◌, ap, subst, refl, ⊎_elim, arith}
+use Rattle.std.specs.Str.Parse.{ParsesUnsigned, AllDigits, digits_value}
 use Rattle.std.proofs.lemmas.Bool.{cases_lt}
-use Rattle.std.proofs.lemmas.Fmt.{decimal_digit, decimal_step}
+use Rattle.std.proofs.lemmas.Fmt.{parse-decimal, decimal-digits_value, decimal_digit, first_decimal, decimal_is_IsNumeral}
+use Rattle.std.proofs.lemmas.Result.{OkIff-at_ok}
+use Rattle.std.proofs.lemmas.Str.Parse.{IsNumeralModel, numerals_by_value, tells_digits, parse_plain, digit_at}
 
-two : (n : ℕ) → 10 ≤ n → n < 100 → decimal n ≡ (48 + n / 10) ∷ (48 + n % 10) ∷ []
-two n l h = decimal_step n l (omega arith) ∙ ap (λ ds. ds ++ ((48 + n % 10) ∷ [])) (decimal_digit (n / 10) (omega arith))
+-- a 0 stands alone, or another digit first
+abbrev pub Begins : List ℕ → Type 0
+Begins bs = (0 < length bs) × (48 ≤ get_or bs 0 0) × (get_or bs 0 0 ≤ 57) × (get_or bs 0 0 ≡ 48 → length bs ≡ 1)
 
--- one digit, or two
-abbrev pub Figures : List ℕ → ℕ → Type 0
-Figures text n = ((length text ≡ 1) × (get_or text 0 0 ≡ 48 + n) × (n < 10)) ⊎ ((length text ≡ 2) × (get_or text 0 0 ≡ 48 + n / 10) × (get_or text 1 0 ≡ 48 + n % 10) × (10 ≤ n))
+own : IsNumeralModel (AllDigits 10) (digits_value 10)
+own = numerals_by_value (AllDigits 10) tells_digits
 
-pub figures : (text : List ℕ) (n : ℕ) → n < 100 → text ≡ decimal n → Figures text n
-figures text n h e = subst (λ (ds : List ℕ). Figures ds n) (sym e)
-    (⊎_elim
-    (λ l. subst (λ (ds : List ℕ). Figures ds n) (sym (decimal_digit n l)) (inl (refl, refl, l)))
-    (λ l. subst (λ (ds : List ℕ). Figures ds n) (sym (two n (omega arith) h)) (inr (refl, refl, refl, omega arith)))
-    (cases_lt n 10))
-
-pub one_figure : (text : List ℕ) (n : ℕ) → length text ≡ 1 → get_or text 0 0 ≡ 48 + n → n < 10 → text ≡ decimal n
-one_figure [] n l e h = absurd (omega arith)
-one_figure (x ∷ []) n l e h = ap (λ y. y ∷ []) e ∙ sym (decimal_digit n h)
-one_figure (x ∷ y ∷ ys) n l e h = absurd (omega arith)
-
-pub two_figures : (text : List ℕ) (n : ℕ) → length text ≡ 2 → get_or text 0 0 ≡ 48 + n / 10 → get_or text 1 0 ≡ 48 + n % 10 → 10 ≤ n → n < 100 → text ≡ decimal n
-two_figures [] n l e f g h = absurd (omega arith)
-two_figures (x ∷ []) n l e f g h = absurd (omega arith)
-two_figures (x ∷ y ∷ []) n l e f g h = ap (λ z. z ∷ y ∷ []) e ∙ ap (λ z. (48 + n / 10) ∷ z ∷ []) f ∙ sym (two n g h)
-two_figures (x ∷ y ∷ z ∷ zs) n l e f g h = absurd (omega arith)
-
--- what is read, where something is and where nothing is
-abbrev pub Read : List ℕ → Option ℕ → Type 0
-Read text r = (n : ℕ) → (r ≡ Some n) ↔ ((n < 100) × (text ≡ decimal n))
-
-some_is : (k n : ℕ) → Some k ≡ Some n → k ≡ n
-some_is k n e = cc
-
-pub read_some : (text : List ℕ) (k : ℕ) → k < 100 → text ≡ decimal k → ((n : ℕ) → Figures text n → n ≡ k) → Read text (Some k)
-read_some text k h e same n = (
-  λ q. let s = some_is k n q in (omega arith, e ∙ ap decimal s),
-  λ p. ap Some (sym (same n (figures text n p.0 p.1))),
+-- a text that begins so is read as the number whose decimal it is
+pub number_read : {E : Type 0} (bs : List ℕ) (r : Result ℕ E) → ParsesUnsigned 8 10 bs r → Begins bs → (n : ℕ) → (r ≡ Ok n) ↔ ((n < 256) × (bs ≡ decimal n))
+number_read bs r h b n = (
+  λ e. let p = OkIff-at_ok r _ _ n (parse_plain own 8 bs r h (omega (arith, b.1))) e in
+      (omega (arith, p.0.2, p.1), sym (ap decimal p.1 ∙ decimal-digits_value own bs p.0.0 p.0.1 b.3 (omega (arith, p.0.2)))),
+  λ p. parse-decimal 8 n bs r (omega (arith, p.0)) (omega (arith, p.0)) p.1 h,
 )
 
-pub read_none : (text : List ℕ) → ((n : ℕ) → n < 100 → Figures text n → ⊥) → Read text None
-read_none text no' n = (
-  λ q. let z : ◌≡◌ {A = ℕ} 0 1 = cc in absurd (omega arith),
-  λ p. absurd (no' n p.0 (figures text n p.0 p.1)),
-)
+-- and so begins every decimal
+pub begins : (n : ℕ) → n < 64 → Begins (decimal n)
+begins n h = ⊎_elim
+    (λ l. let d = decimal_is_IsNumeral n (omega arith) in let f = first_decimal n l (omega arith) in
+    (d.0.0, omega (arith, f), omega (arith, digit_at (decimal n) 0 d.0.1 d.0.0), λ e. absurd (omega (arith, f, e))))
+    (λ l. subst Begins (sym (ap decimal (omega arith) ∙ decimal_digit 0 (omega arith))) (omega arith, omega arith, omega arith, λ e. refl))
+    (cases_lt 0 n)

@@ -1,21 +1,25 @@
-//! What the programs share: a file on standard input, tables for any model file, and the fault line.
+//! What the programs share: how they start, the model file on standard input, and the fault line.
 #![tactic(auto)]
 
-use crate::advice::advice;
+ghost use Rattle.std.specs.Prelude.{◌≡◌, ◌+◌, take};
+ghost use Rattle.console.specs.Tables.{LoadAnswer};
+
+use crate::faults::print_fault;
 use anyhow::anyhow;
+use kripke::LIMIT;
 use modelfile::LONGEST;
-use modelfile::faults::FaultNumbers;
-use modelfile::reading;
+use modelfile::faults::FileFault;
+use modelfile::reading::{self, Loaded};
 use models::facts::Facts;
 use models::listed::Listed;
 use std::alloc::{AllocError, Global};
-use std::io::{Read, Write};
+use std::io::Read;
 use std::{env, io};
 
-pub mod advice;
+pub mod faults;
 
-// The longest fault line: the word, and four numbers of at most 20 digits with a space before each.
-const LINE: usize = 96;
+// The most states of a file. Each target takes a byte of it, so there are fewer of them than it may have bytes.
+const STATES: usize = LIMIT as usize;
 
 /// Tables with room for any model file.
 #[derive(Drop)]
@@ -26,10 +30,11 @@ pub struct Tables {
 }
 
 impl Tables {
+    /// Tables in which nothing is loaded.
     pub fn new(heap: Global) -> Result<Tables, AllocError> {
-        let labels = vec![in heap; Facts::NONE; 4096]?;
-        let offsets = vec![in heap; 0; 4097]?;
-        let targets = vec![in heap; 0; 32767]?;
+        let labels = vec![in heap; Facts::NONE; STATES]?;
+        let offsets = vec![in heap; 0; STATES + 1]?;
+        let targets = vec![in heap; 0; LONGEST]?;
         Ok(Tables {
             labels,
             offsets,
@@ -37,17 +42,32 @@ impl Tables {
         })
     }
 
-    /// The tables, lent to be loaded into.
-    pub fn lend(&mut self) -> reading::Tables<'_> {
-        reading::Tables {
-            labels: &mut self.labels,
-            offsets: &mut self.offsets,
-            targets: &mut self.targets,
-        }
+    /// Loads a model file, and answers the model that it denotes.
+    pub fn load(&mut self, file: &[u8]) -> Result<Listed<'_, Facts>, FileFault>
+        ensures { LoadAnswer self.old file.now result }
+    {
+        let Loaded { states, targets } = reading::load(
+            file,
+            &mut reading::Tables {
+                labels: &mut self.labels,
+                offsets: &mut self.offsets,
+                targets: &mut self.targets,
+            },
+        )?;
+        let n = states as usize;
+        Ok(Listed {
+            labels: &self.labels[0..n],
+            offsets: &self.offsets[0..n + 1],
+            targets: &self.targets[0..targets],
+        })
     }
 
     /// The model that was loaded, if it has so many states.
-    pub fn model(&self, states: usize) -> Listed<'_, Facts> {
+    pub fn model(&self, states: usize) -> Listed<'_, Facts>
+        ensures labels { result.labels.now ≡ take states self.now.labels.items }
+        ensures offsets { result.offsets.now ≡ take (states + 1) self.now.offsets.items }
+        ensures targets { result.targets.now ≡ self.now.targets.items }
+    {
         let labels = states.min(self.labels.len());
         let offsets = states.saturating_add(1).min(self.offsets.len());
         Listed {
@@ -58,8 +78,8 @@ impl Tables {
     }
 }
 
-/// The arguments of the program, with a space between two.
-pub fn arguments(rt: &HostRuntime) -> anyhow::Result<String> {
+// The arguments of the program, with a space between two.
+fn arguments(rt: &HostRuntime) -> anyhow::Result<String> {
     let mut all = String::new(rt.alloc());
     for word in env::args(rt)?.skip(1) {
         if !all.is_empty() {
@@ -70,24 +90,43 @@ pub fn arguments(rt: &HostRuntime) -> anyhow::Result<String> {
     Ok(all)
 }
 
-/// Whether the program was called with `help` alone.
-pub fn wants_help(rt: &HostRuntime) -> anyhow::Result<bool> {
-    Ok(arguments(rt)?.as_str() == "help")
-}
-
 /// Says on standard error that arguments are not understood, and what to do instead. The error is for `main` to end with.
 pub fn refuse(rt: &HostRuntime, words: &str, instead: &str) -> anyhow::Error {
     let _ = eprintln!(rt; "'{words}' is not understood: {instead}");
     anyhow!("the arguments are not understood")
 }
 
-/// Refuses arguments, for a program that takes none but `help`.
-pub fn no_arguments(rt: &HostRuntime, instead: &str) -> anyhow::Result<()> {
+/// Runs a program: prints its help if `help` is all that it was called with, and else does its job with its arguments.
+pub fn run_with_arguments<F: FnOnce(&str) -> anyhow::Result<()>>(
+    rt: &HostRuntime,
+    help: &str,
+    job: F,
+) -> anyhow::Result<()>
+    requires { F.IsAlwaysCallable job }
+{
     let words = arguments(rt)?;
-    if words.is_empty() {
-        return Ok(());
+    if words.as_str() == "help" {
+        return Ok(rt.print(help)?);
     }
-    Err(refuse(rt, &words, instead))
+    job(&words)
+}
+
+/// Runs a program that takes no arguments but `help`, and refuses others.
+pub fn run<F: FnOnce(&HostRuntime) -> anyhow::Result<()>>(
+    rt: &HostRuntime,
+    help: &str,
+    instead: &str,
+    job: F,
+) -> anyhow::Result<()>
+    requires { F.IsAlwaysCallable job }
+{
+    run_with_arguments(rt, help, |words| {
+        if words.is_empty() {
+            job(rt)
+        } else {
+            Err(refuse(rt, words, instead))
+        }
+    })
 }
 
 /// Standard input, up to one byte more than a file may have: what is longer is refused all the same.
@@ -97,11 +136,50 @@ pub fn read_file(rt: &HostRuntime) -> io::Result<Vec<u8>> {
     Ok(file)
 }
 
-/// Prints the fault line, and on standard error what to do next.
-pub fn print_fault(rt: &HostRuntime, fault: FaultNumbers) -> io::Result<()> {
-    let mut buffer = [0; LINE];
-    if let Ok(len) = fault.write(&mut buffer) {
-        rt.stdout().write_all(&buffer[0..len])?;
+/// Does a job with the model of the file on standard input, or prints the fault line.
+pub fn with_model<F: FnOnce(&Listed<'_, Facts>) -> anyhow::Result<()>>(
+    rt: &HostRuntime,
+    job: F,
+) -> anyhow::Result<()>
+    requires { F.IsAlwaysCallable job }
+{
+    let file = read_file(rt)?;
+    let mut tables = Tables::new(rt.alloc())?;
+    match tables.load(&file) {
+        Ok(model) => job(&model),
+        Err(fault) => Ok(print_fault(rt, &fault)?),
     }
-    rt.eprintln(advice(fault.cause))
+}
+
+#[cfg(test)]
+mod tests {
+    use super::*;
+    use codec::numbers::NumberFault;
+    use models::Model;
+    use std::test::Fail;
+
+    // Five states, word 0 in state 2, and the moves 0-1, 1-2, 2-2, 3-2, 4-2 and 4-4.
+    const POLLS: [u8; 17] = [5, 0, 0, 1, 0, 0, 1, 1, 1, 2, 1, 2, 1, 2, 2, 2, 4];
+
+    #[test]
+    fn polls_loaded(rt: HostRuntime) -> Result<(), Fail> {
+        let mut tables = Tables::new(rt.alloc())?;
+        let model = tables.load(&POLLS).ok().expect(&rt, "a model");
+        assert_eq!(rt; model.size(), 5);
+        assert_eq!(rt; model.targets, [1, 2, 2, 2, 2, 4].as_slice());
+        assert!(rt; model.holds(0, 2) && !model.holds(0, 1));
+        let again = tables.model(5);
+        assert_eq!(rt; again.size(), 5);
+        assert_eq!(rt; again.target(4, 1), Some(4));
+        assert_eq!(rt; again.target(4, 2), None);
+        Ok(())
+    }
+
+    #[test]
+    fn number_not_in_fewest_bytes(rt: HostRuntime) -> Result<(), Fail> {
+        let mut tables = Tables::new(rt.alloc())?;
+        let fault = tables.load(&[0x80, 0]).err().expect(&rt, "a fault");
+        assert_eq!(rt; fault, FileFault::InNumber(NumberFault::NotFewestAt(0)));
+        Ok(())
+    }
 }

@@ -1,7 +1,9 @@
 //! A model as a graph in Graphviz's language: a line for each state, then a line for each move.
+ghost use Rattle.std.specs.Prelude.{◌-◌, ◌^◌};
+ghost use Rattle.std.specs.Iterator.{IsFinite, UpTo};
+
 use models::Model;
-use std::alloc::{AllocError, Global};
-use std::fmt::Write;
+use std::fmt;
 
 const HEAD: &str = "\
 digraph model {
@@ -32,109 +34,126 @@ fn fill(class: u16) -> &'static str {
     FILLS[class as usize % FILLS.len()]
 }
 
-// The words that hold at a state.
-fn words_of<M: Model>(heap: Global, model: &M, s: u16) -> Result<Vec<usize>, AllocError> {
-    let mut words = Vec::new(heap);
-    for a in 0..model.words() {
-        if model.holds(a, s) {
-            words.push(a as usize)?;
-        }
-    }
-    Ok(words)
-}
-
-// The states of a class.
-fn members_of(heap: Global, classes: &[u16], class: u16) -> Result<Vec<usize>, AllocError> {
-    let mut members = Vec::new(heap);
-    for (s, own) in classes.iter().enumerate() {
-        if *own == class {
-            members.push(s)?;
-        }
-    }
-    Ok(members)
-}
-
 // Numbers in a node: `lead` before the first of them, and `sign` before each.
-fn push_numbers(
-    node: &mut String,
+fn write_numbers<W: fmt::Write, I: Iterator<Item = usize>>(
+    f: &mut fmt::Formatter<W>,
     lead: &str,
     sign: &str,
-    numbers: &[usize],
-) -> anyhow::Result<()> {
-    let mut gap = lead;
-    for (place, number) in numbers.iter().enumerate() {
-        write!(node, "{gap}{sign}{number}")?;
-        gap = if place % LINE == LINE - 1 { "\\n" } else { " " };
+    numbers: I,
+) -> fmt::Result
+    requires can { I.can_next numbers }
+    requires ends { IsFinite (I.remaining numbers) }
+    requires few { UpTo (I.remaining numbers) (2 ^ 64 - 1) }
+{
+    for (place, number) in numbers.enumerate() {
+        let gap = match place {
+            0 => lead,
+            _ if place % LINE == 0 => "\\n",
+            _ => " ",
+        };
+        write!(f, "{gap}{sign}{number}")?;
     }
     Ok(())
 }
 
-// What stands in the node of a state: its number, its words and its class.
-fn state_node<M: Model>(heap: Global, model: &M, s: u16, class: u16) -> anyhow::Result<String> {
-    let mut node = format!(in heap; "{s}")?;
-    push_numbers(&mut node, "\\n", "w", &words_of(heap, model, s)?)?;
-    write!(node, "\\nclass {class}")?;
-    Ok(node)
-}
-
-// What stands in the node of a class: its number, its words and its states.
-fn class_node<M: Model>(
-    heap: Global,
-    model: &M,
+// The line of a state: a node with its number, its words, and its class or the states that it stands for.
+#[derive(Drop)]
+struct Node<'a, M> {
+    model: &'a M,
+    state: u16,
     class: u16,
-    classes: &[u16],
-) -> anyhow::Result<String> {
-    let mut node = format!(in heap; "{class}")?;
-    push_numbers(&mut node, "\\n", "w", &words_of(heap, model, class)?)?;
-    push_numbers(&mut node, "\\nfor ", "", &members_of(heap, classes, class)?)?;
-    Ok(node)
+    // where it is drawn for the class: the class of each state, among them those that it stands for
+    classes: Option<&'a [u16]>,
 }
 
-fn push_node(text: &mut String, s: u16, node: &str, class: u16) -> anyhow::Result<()> {
-    let colour = fill(class);
-    writeln!(text, "  {s} [label=\"{node}\", fillcolor=\"{colour}\"];")?;
-    Ok(())
-}
-
-fn push_row<M: Model>(text: &mut String, model: &M, s: u16) -> anyhow::Result<()> {
-    for t in model.moves(s) {
-        writeln!(text, "  {s} -> {t};")?;
+impl<M: Model> fmt::Display for Node<'_, M> {
+    fn fmt<W: fmt::Write>(&self, f: &mut fmt::Formatter<W>) -> fmt::Result {
+        let (model, s, class) = (self.model, self.state, self.class);
+        write!(f, "  {s} [label=\"{s}")?;
+        let words = (0..model.words()).filter(|a| model.holds(*a, s));
+        write_numbers(f, "\\n", "w", words.map(usize::from))?;
+        match self.classes {
+            Some(classes) => {
+                let members = classes.iter().enumerate().filter(|(_, own)| **own == class);
+                write_numbers(f, "\\nfor ", "", members.map(|(s, _)| s))?;
+            }
+            None => write!(f, "\\nclass {class}")?,
+        }
+        let colour = fill(class);
+        writeln!(f, "\", fillcolor=\"{colour}\"];")
     }
-    Ok(())
+}
+
+// The lines of a state's moves.
+#[derive(Drop)]
+struct Row<'a, M> {
+    model: &'a M,
+    state: u16,
+}
+
+impl<M: Model> fmt::Display for Row<'_, M> {
+    fn fmt<W: fmt::Write>(&self, f: &mut fmt::Formatter<W>) -> fmt::Result {
+        let s = self.state;
+        for t in self.model.moves(s) {
+            writeln!(f, "  {s} -> {t};")?;
+        }
+        Ok(())
+    }
 }
 
 // The moves, and the end of the graph.
-fn push_rows<M: Model>(text: &mut String, model: &M) -> anyhow::Result<()> {
-    for s in 0..model.size() {
-        push_row(text, model, s)?;
+fn write_rows<W: fmt::Write, M: Model>(f: &mut fmt::Formatter<W>, model: &M) -> fmt::Result {
+    for state in 0..model.size() {
+        let row = Row { model, state };
+        write!(f, "{row}")?;
     }
-    text.push_str("}\n")?;
-    Ok(())
+    f.write_str("}\n")
 }
 
-// The graph of a model, with the class of each of its states.
-pub fn full<M: Model>(heap: Global, model: &M, classes: &[u16]) -> anyhow::Result<String> {
-    let mut text = String::from_str(heap, HEAD)?;
-    for (s, class) in (0..model.size()).zip(classes.iter().copied()) {
-        push_node(&mut text, s, &state_node(heap, model, s, class)?, class)?;
-    }
-    push_rows(&mut text, model)?;
-    Ok(text)
+/// The graph of a model, with the class of each of its states.
+#[derive(Drop)]
+pub struct StateGraph<'a, M> {
+    pub model: &'a M,
+    pub classes: &'a [u16],
 }
 
-// The graph of a reduced model, with the classes of the states that it stands for.
-pub fn reduced<M: Model>(heap: Global, model: &M, classes: &[u16]) -> anyhow::Result<String> {
-    let mut text = String::from_str(heap, HEAD)?;
-    for class in 0..model.size() {
-        push_node(
-            &mut text,
-            class,
-            &class_node(heap, model, class, classes)?,
-            class,
-        )?;
+impl<M: Model> fmt::Display for StateGraph<'_, M> {
+    fn fmt<W: fmt::Write>(&self, f: &mut fmt::Formatter<W>) -> fmt::Result {
+        f.write_str(HEAD)?;
+        for (state, class) in (0..self.model.size()).zip(self.classes.iter().copied()) {
+            let node = Node {
+                model: self.model,
+                state,
+                class,
+                classes: None,
+            };
+            write!(f, "{node}")?;
+        }
+        write_rows(f, self.model)
     }
-    push_rows(&mut text, model)?;
-    Ok(text)
+}
+
+/// The graph of a reduced model, with the class of each state that it stands for.
+#[derive(Drop)]
+pub struct ClassGraph<'a, M> {
+    pub model: &'a M,
+    pub classes: &'a [u16],
+}
+
+impl<M: Model> fmt::Display for ClassGraph<'_, M> {
+    fn fmt<W: fmt::Write>(&self, f: &mut fmt::Formatter<W>) -> fmt::Result {
+        f.write_str(HEAD)?;
+        for class in 0..self.model.size() {
+            let node = Node {
+                model: self.model,
+                state: class,
+                class,
+                classes: Some(self.classes),
+            };
+            write!(f, "{node}")?;
+        }
+        write_rows(f, self.model)
+    }
 }
 
 #[cfg(test)]
@@ -168,15 +187,28 @@ digraph model {
             offsets: &[0, 1, 2, 4],
             targets: &[1, 1, 1, 2],
         };
-        let text = reduced(rt.alloc(), &model, &[0, 0, 1, 0, 2])?;
+        let classes = &[0, 0, 1, 0, 2];
+        let text = ClassGraph {
+            model: &model,
+            classes,
+        }
+        .to_string(rt.alloc())?;
         assert_eq!(rt; text.as_str(), POLLS);
         Ok(())
     }
 
+    #[derive(Drop)]
+    struct Numbers<'a>(&'a [usize]);
+
+    impl fmt::Display for Numbers<'_> {
+        fn fmt<W: fmt::Write>(&self, f: &mut fmt::Formatter<W>) -> fmt::Result {
+            write_numbers(f, ":", "w", self.0.iter().copied())
+        }
+    }
+
     #[test]
     fn eight_to_a_line(rt: HostRuntime) -> Result<(), Fail> {
-        let mut node = String::new(rt.alloc());
-        push_numbers(&mut node, ":", "w", &[0, 1, 2, 3, 4, 5, 6, 7, 8, 9])?;
+        let node = Numbers(&[0, 1, 2, 3, 4, 5, 6, 7, 8, 9]).to_string(rt.alloc())?;
         assert_eq!(rt; node.as_str(), ":w0 w1 w2 w3 w4 w5 w6 w7\\nw8 w9");
         Ok(())
     }

@@ -1,13 +1,16 @@
 //! Draws a model file, or its reduced model, as a graph for Graphviz, with a colour for each class.
 #![tactic(auto)]
 
-use console::{Tables, arguments, refuse, wants_help};
-use intake::{MOST_STATES, take_into};
+ghost use Rattle.draw.specs.Forms.{Asks};
+
+use crate::graph::{ClassGraph, StateGraph};
+use console::{Tables, refuse, run_with_arguments};
+use intake::settle_into;
 use merger::analysis::Analysis;
 use merger::reduced::Reduced;
-use models::facts::Facts;
-use models::listed::Listed;
 use std::alloc::{AllocError, Global};
+use std::str::FromStr;
+use survey::MOST_STATES;
 
 mod graph;
 
@@ -33,60 +36,59 @@ enum Form {
     Reduced,
 }
 
-// The form that the arguments ask for.
-fn asked_form(rt: &HostRuntime) -> anyhow::Result<Form> {
-    match arguments(rt)?.as_str() {
-        "" => Ok(Form::Full),
-        "reduced" => Ok(Form::Reduced),
-        other => Err(refuse(rt, other, USAGE)),
+// Arguments that ask for none.
+#[derive(Clone, Copy)]
+struct UnknownForm;
+
+impl FromStr for Form {
+    type Err = UnknownForm;
+
+    ghost from_str_gives = { Asks };
+
+    fn from_str(words: &str) -> Result<Form, UnknownForm> {
+        match words {
+            "" => Ok(Form::Full),
+            "reduced" => Ok(Form::Reduced),
+            _ => Err(UnknownForm),
+        }
     }
+}
+
+// The form that the arguments ask for.
+fn asked_form(rt: &HostRuntime, words: &str) -> anyhow::Result<Form> {
+    words.parse().map_err(|_| refuse(rt, words, USAGE))
 }
 
 // The class of each state of the opened model: past the last state the analysis answers nothing.
 fn classes_of(heap: Global, analysis: &Analysis) -> Result<Vec<u16>, AllocError> {
-    let mut classes = Vec::new(heap);
-    for s in 0..MOST_STATES as u16 {
-        if let Ok(class) = analysis.class(s) {
-            classes.push(class)?;
-        }
-    }
-    Ok(classes)
-}
-
-// The graph of the model in the tables, by its settled analysis.
-fn graph_of(
-    heap: Global,
-    tables: &Tables,
-    analysis: &Analysis,
-    form: Form,
-) -> anyhow::Result<String> {
-    let classes = classes_of(heap, analysis)?;
-    match form {
-        Form::Full => graph::full(heap, &tables.model(classes.len()), &classes),
-        Form::Reduced => {
-            let mut reduced = Reduced::empty();
-            let _ = analysis.reduced(&mut reduced);
-            graph::reduced(heap, &reduced, &classes)
-        }
-    }
+    (0..MOST_STATES)
+        .map_while(|s| analysis.class(s).ok())
+        .collect(heap)
 }
 
 fn draw(rt: &HostRuntime, form: Form) -> anyhow::Result<()> {
     let mut tables = Tables::new(rt.alloc())?;
-    let Some(mut analysis) = take_into(rt, &mut tables)? else {
+    let Some(analysis) = settle_into(rt, &mut tables)? else {
         return Ok(());
     };
-    // no model settles later than after as many rounds as it has states
-    let _ = analysis.run(MOST_STATES);
-    rt.print(graph_of(rt.alloc(), &tables, &analysis, form)?)?;
+    let classes = &classes_of(rt.alloc(), &analysis)?;
+    match form {
+        Form::Full => {
+            let model = &tables.model(classes.len());
+            rt.print(StateGraph { model, classes })?;
+        }
+        Form::Reduced => {
+            let mut reduced = Reduced::empty();
+            let _ = analysis.reduced(&mut reduced);
+            rt.print(ClassGraph {
+                model: &reduced,
+                classes,
+            })?;
+        }
+    }
     Ok(())
 }
 
 fn main(rt: HostRuntime) -> anyhow::Result<()> {
-    if wants_help(&rt)? {
-        print!(rt; "{HELP}")?;
-        return Ok(());
-    }
-    let form = asked_form(&rt)?;
-    draw(&rt, form)
+    run_with_arguments(&rt, HELP, |words| draw(&rt, asked_form(&rt, words)?))
 }

@@ -1,11 +1,13 @@
 //! Says what is in a model file, or where it is wrong.
 #![tactic(auto)]
 
-use console::{Tables, no_arguments, print_fault, read_file, wants_help};
-use modelfile::reading::load;
-use models::{Label, Model};
-use std::alloc::Global;
-use std::fmt::Write;
+ghost use Rattle.std.specs.Iterator.{IsFinite};
+
+use console::{run, with_model};
+use models::Model;
+use models::facts::Facts;
+use models::listed::Listed;
+use std::fmt;
 
 const HELP: &str = "\
 inspect reads a model file from standard input and prints what it holds:
@@ -16,49 +18,85 @@ the place of the byte, and the number of the move (0 where there is none).
 docs/FORMAT.md says what each cause means.
 ";
 
-// One state: the words that hold, rising, and where its moves go.
-fn state_line<M: Model>(heap: Global, model: &M, s: u16) -> anyhow::Result<String> {
-    let mut line = format!(in heap; "state {s} words")?;
-    for a in 0..model.words() {
-        if model.holds(a, s) {
-            write!(line, " {a}")?;
-        }
-    }
-    line.push_str(" moves")?;
-    for t in model.moves(s) {
-        write!(line, " {t}")?;
-    }
-    Ok(line)
+const USAGE: &str = "write 'inspect < FILE', or 'inspect help'";
+
+// A state of a model: the words that hold, rising, and where its moves go.
+#[derive(Drop)]
+struct State<'a, M> {
+    model: &'a M,
+    number: u16,
 }
 
-fn print_model<M: Model>(rt: &HostRuntime, model: &M, moves: usize) -> anyhow::Result<()> {
+impl<M: Model> fmt::Display for State<'_, M> {
+    fn fmt<W: fmt::Write>(&self, f: &mut fmt::Formatter<W>) -> fmt::Result {
+        let model = self.model;
+        let s = self.number;
+        write!(f, "state {s} words")?;
+        write_each(f, (0..model.words()).filter(|a| model.holds(*a, s)))?;
+        write!(f, " moves")?;
+        write_each(f, model.moves(s))
+    }
+}
+
+fn write_each<W: fmt::Write, I: Iterator>(f: &mut fmt::Formatter<W>, numbers: I) -> fmt::Result
+where
+    I::Item: fmt::Display + Drop,
+    requires can { I.can_next numbers }
+    requires ends { IsFinite (I.remaining numbers) }
+{
+    for number in numbers {
+        write!(f, " {number}")?;
+    }
+    Ok(())
+}
+
+fn print_model(rt: &HostRuntime, model: &Listed<'_, Facts>) -> anyhow::Result<()> {
     let states = model.size();
+    let moves = model.targets.len();
     println!(rt; "states {states}")?;
     println!(rt; "moves {moves}")?;
-    for s in 0..states {
-        rt.println(state_line(rt.alloc(), model, s)?)?;
+    for number in 0..states {
+        rt.println(State { model, number })?;
     }
     Ok(())
 }
 
 fn inspect(rt: &HostRuntime) -> anyhow::Result<()> {
-    let file = read_file(rt)?;
-    let mut tables = Tables::new(rt.alloc())?;
-    let mut lent = tables.lend();
-    match load(&file, &mut lent) {
-        Ok(loaded) => print_model(rt, &lent.model(loaded), loaded.targets),
-        Err(fault) => {
-            print_fault(rt, fault.numbers())?;
-            Ok(())
-        }
-    }
+    with_model(rt, |model| print_model(rt, model))
 }
 
 fn main(rt: HostRuntime) -> anyhow::Result<()> {
-    if wants_help(&rt)? {
-        print!(rt; "{HELP}")?;
-        return Ok(());
+    run(&rt, HELP, USAGE, inspect)
+}
+
+#[cfg(test)]
+mod tests {
+    use super::*;
+    use std::test::Fail;
+
+    #[test]
+    fn words_and_moves(rt: HostRuntime) -> Result<(), Fail> {
+        let model = Listed {
+            labels: &[Facts { bits: 0 }, Facts { bits: 10 }],
+            offsets: &[0, 0, 2],
+            targets: &[0, 1],
+        };
+        let still = State {
+            model: &model,
+            number: 0,
+        };
+        assert_eq!(rt;
+            still.to_string(rt.alloc())?.as_str(),
+            "state 0 words moves"
+        );
+        let state = State {
+            model: &model,
+            number: 1,
+        };
+        assert_eq!(rt;
+            state.to_string(rt.alloc())?.as_str(),
+            "state 1 words 1 3 moves 0 1"
+        );
+        Ok(())
     }
-    no_arguments(&rt, "write 'inspect < FILE', or 'inspect help'")?;
-    inspect(&rt)
 }

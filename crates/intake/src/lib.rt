@@ -1,38 +1,108 @@
-//! What the programs that merge share: the model file on standard input, taken into an analysis.
+//! What the programs that merge share: the model file on standard input, taken into an analysis and settled.
 #![tactic(auto)]
 
+ghost use Rattle.exchange.specs.Takes.{take_told};
+ghost use Rattle.intake.specs.Settling.{SettleAnswer};
+
 use components::Walk;
-use console::{Tables, print_fault, read_file};
-use exchange::taking::take;
+use console::faults::{Fault, PAGES, print_fault};
+use console::{Tables, read_file};
+use exchange::taking::{TakeFault, take};
 use merger::analysis::Analysis;
-use std::alloc::Global;
+use merger::answers::OpenRefusal;
+use modelfile::faults::FaultNumbers;
+use modelfile::reading;
 use std::io;
+use survey::MOST_STATES;
 
-/// The most states that an analysis takes, and so the most rounds that it makes.
-pub const MOST_STATES: usize = 128;
+// Scratch of an analysis has an entry for each state that it may have.
+const SCRATCH: usize = MOST_STATES as usize;
 
-/// Takes the file on standard input. Where it is not taken this prints the fault line, and answers `None`.
-pub fn take_input(rt: &HostRuntime) -> io::Result<Option<Analysis>> {
-    let mut tables = Tables::new(rt.alloc())?;
-    take_into(rt, &mut tables)
+// Why a file is not taken. TakeFault is exchange's and Fault is console's, so the answer to both is a type of intake's own.
+#[derive(Clone, Copy)]
+struct NotTaken(TakeFault);
+
+impl Fault for NotTaken {
+    ghost told = { λ n. take_told n.0 };
+
+    fn tells(&self) -> FaultNumbers {
+        self.0.numbers()
+    }
+
+    fn advice(&self) -> &'static str {
+        match self.0 {
+            TakeFault::InFile(fault) => fault.advice(),
+            TakeFault::InModel(OpenRefusal::Lacks(gap)) => gap.advice(),
+            TakeFault::InModel(OpenRefusal::ShortScratch) => PAGES,
+        }
+    }
+}
+
+/// Takes a model file into an analysis, and makes all rounds.
+pub fn settle(file: &[u8], tables: &mut Tables) -> Result<Analysis, TakeFault>
+    ensures { SettleAnswer file.now tables.old tables.new result }
+{
+    let mut analysis = Analysis::new();
+    let opened = take(
+        &mut analysis,
+        file,
+        &mut reading::Tables {
+            labels: &mut tables.labels,
+            offsets: &mut tables.offsets,
+            targets: &mut tables.targets,
+        },
+        &mut [Walk::BLANK; SCRATCH],
+        &mut [0; SCRATCH],
+    )?;
+    // no model settles later than after as many rounds as it has states
+    let _ = analysis.run(opened.states as usize);
+    Ok(analysis)
+}
+
+/// Settles the file on standard input. Where it is not taken this prints the fault line, and answers `None`.
+pub fn settle_input(rt: &HostRuntime) -> io::Result<Option<Analysis>> {
+    settle_into(rt, &mut Tables::new(rt.alloc())?)
 }
 
 /// The same, with the model left in the tables.
-pub fn take_into(rt: &HostRuntime, tables: &mut Tables) -> io::Result<Option<Analysis>> {
+pub fn settle_into(rt: &HostRuntime, tables: &mut Tables) -> io::Result<Option<Analysis>> {
     let file = read_file(rt)?;
-    let mut analysis = Analysis::new();
-    let taken = take(
-        &mut analysis,
-        &file,
-        &mut tables.lend(),
-        &mut [Walk::BLANK; MOST_STATES],
-        &mut [0; MOST_STATES],
-    );
-    match taken {
-        Ok(_) => Ok(Some(analysis)),
+    match settle(&file, tables) {
+        Ok(analysis) => Ok(Some(analysis)),
         Err(fault) => {
-            print_fault(rt, fault.numbers())?;
+            print_fault(rt, &NotTaken(fault))?;
             Ok(None)
         }
+    }
+}
+
+#[cfg(test)]
+mod tests {
+    use super::*;
+    use std::test::Fail;
+
+    // Five states, word 0 in state 2, and the moves 0-1, 1-2, 2-2, 3-2, 4-2 and 4-4.
+    const POLLS: [u8; 17] = [5, 0, 0, 1, 0, 0, 1, 1, 1, 2, 1, 2, 1, 2, 2, 2, 4];
+
+    #[test]
+    fn polls_settled(rt: HostRuntime) -> Result<(), Fail> {
+        let mut tables = Tables::new(rt.alloc())?;
+        let analysis = settle(&POLLS, &mut tables).ok().expect(&rt, "an analysis");
+        let found = analysis.summary().ok().expect(&rt, "a summary");
+        assert_eq!(rt; (found.rounds, found.classes, found.settled), (2, 3, true));
+        Ok(())
+    }
+
+    #[test]
+    fn state_with_no_move(rt: HostRuntime) -> Result<(), Fail> {
+        let mut tables = Tables::new(rt.alloc())?;
+        let fault = settle(&[1, 0, 0], &mut tables).err().expect(&rt, "a fault");
+        let not_taken = NotTaken(fault);
+        assert_eq!(rt; not_taken.tells().cause, 15);
+        assert_eq!(rt;
+            not_taken.advice(),
+            "that state has no move: give it one, if only to itself (docs/ANALYSIS.md)"
+        );
+        Ok(())
     }
 }

@@ -1,12 +1,13 @@
 //! Merges the states of a model file that no formula tells apart, and lists each state with its class.
 #![tactic(auto)]
 
-use anyhow::anyhow;
-use console::{no_arguments, wants_help};
+use anyhow::bail;
+use console::run;
 use exchange::listing::listing;
-use intake::{MOST_STATES, take_input};
+use intake::settle_input;
 use merger::analysis::Analysis;
 use std::io::Write;
+use survey::MOST_STATES;
 
 const HELP: &str = "\
 merge reads a model file from standard input, merges the states that no formula
@@ -18,32 +19,26 @@ its cause, its place, and the number of the move (0 where there is none).
 docs/FORMAT.md says what causes 1 to 7 mean, docs/ANALYSIS.md 11 to 15.
 ";
 
-// Five lines of at most 15 bytes, and for each state one of at most 8.
-const LONGEST_LISTING: usize = 1099;
+const USAGE: &str = "write 'merge < FILE', or 'merge help'";
 
-// Runs an opened analysis to the end and prints the listing.
-fn print_listing(rt: &HostRuntime, analysis: &mut Analysis) -> anyhow::Result<()> {
+// Five lines of at most 15 bytes, and for each state one of at most 8.
+const LONGEST_LISTING: usize = 5 * 15 + MOST_STATES as usize * 8;
+
+fn print_listing(rt: &HostRuntime, analysis: &Analysis) -> anyhow::Result<()> {
     let mut text = [0; LONGEST_LISTING];
-    // no model settles later than after as many rounds as it has states
-    let _ = analysis.run(MOST_STATES);
-    match listing(analysis, &mut text) {
-        Ok(len) => Ok(rt.stdout().write_all(&text[0..len])?),
-        Err(_) => Err(anyhow!("no listing")),
-    }
+    let Ok(len) = listing(analysis, &mut text) else {
+        bail!("no listing");
+    };
+    Ok(rt.stdout().write_all(&text[0..len])?)
 }
 
 fn merge(rt: &HostRuntime) -> anyhow::Result<()> {
-    match take_input(rt)? {
-        Some(mut analysis) => print_listing(rt, &mut analysis),
+    match settle_input(rt)? {
+        Some(analysis) => print_listing(rt, &analysis),
         None => Ok(()),
     }
 }
 
 fn main(rt: HostRuntime) -> anyhow::Result<()> {
-    if wants_help(&rt)? {
-        print!(rt; "{HELP}")?;
-        return Ok(());
-    }
-    no_arguments(&rt, "write 'merge < FILE', or 'merge help'")?;
-    merge(&rt)
+    run(&rt, HELP, USAGE, merge)
 }

@@ -1,10 +1,9 @@
 //! Loads a model file and writes it again: an accepted file comes out as its own bytes.
 #![tactic(auto)]
 
-use anyhow::anyhow;
-use console::{Tables, no_arguments, print_fault, read_file, wants_help};
+use anyhow::bail;
+use console::{run, with_model};
 use modelfile::LONGEST;
-use modelfile::reading::load;
 use models::Model;
 use std::io::Write;
 use writing::saving::save;
@@ -18,35 +17,20 @@ the place of the byte, and the number of the move (0 where there is none).
 docs/FORMAT.md says what each cause means.
 ";
 
+const USAGE: &str = "write 'rewrite < FILE', or 'rewrite help'";
+
 fn write_model<M: Model>(rt: &HostRuntime, model: &M) -> anyhow::Result<()> {
     let mut buffer = vec![in rt.alloc(); 0; LONGEST]?;
-    match save(model, &mut buffer) {
-        Ok(len) => {
-            rt.stdout().write_all(&buffer[0..len])?;
-            Ok(())
-        }
-        Err(_) => Err(anyhow!("the model is not written; 'inspect < FILE' says what it holds")),
-    }
+    let Ok(len) = save(model, &mut buffer) else {
+        bail!("the model is not written; 'inspect < FILE' says what it holds");
+    };
+    Ok(rt.stdout().write_all(&buffer[0..len])?)
 }
 
 fn rewrite(rt: &HostRuntime) -> anyhow::Result<()> {
-    let file = read_file(rt)?;
-    let mut tables = Tables::new(rt.alloc())?;
-    let mut lent = tables.lend();
-    match load(&file, &mut lent) {
-        Ok(loaded) => write_model(rt, &lent.model(loaded)),
-        Err(fault) => {
-            print_fault(rt, fault.numbers())?;
-            Ok(())
-        }
-    }
+    with_model(rt, |model| write_model(rt, model))
 }
 
 fn main(rt: HostRuntime) -> anyhow::Result<()> {
-    if wants_help(&rt)? {
-        print!(rt; "{HELP}")?;
-        return Ok(());
-    }
-    no_arguments(&rt, "write 'rewrite < FILE', or 'rewrite help'")?;
-    rewrite(&rt)
+    run(&rt, HELP, USAGE, rewrite)
 }

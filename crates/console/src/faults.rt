@@ -1,0 +1,175 @@
+//! What is wrong with what a program was given: the fault line, and what to do about it in a line for people.
+ghost use Rattle.std.specs.Prelude.{◌≡◌};
+ghost use Rattle.modelfile.specs.declared.faults.FaultNumbers.{FaultNumbers as Told};
+ghost use Rattle.modelfile.specs.Faults.{file_told};
+ghost use Rattle.console.specs.Faults.{gap_told};
+
+use codec::numbers::NumberFault;
+use modelfile::faults::{FaultNumbers, FileFault};
+use std::io;
+use std::io::Write;
+use survey::gaps::Gap;
+
+/// What to do about a cause that a program does not come to.
+pub const PAGES: &str =
+    "docs/FORMAT.md, docs/ANALYSIS.md and docs/FORMULAS.md say what the cause means";
+
+// The longest fault line: the word, and four numbers of at most 20 digits with a space before each.
+const LINE: usize = 96;
+
+/// A fault that a program answers with.
+pub trait Fault {
+    // what its line tells
+    ghost told: { Self → Told };
+
+    /// The numbers of its line.
+    fn tells(&self) -> FaultNumbers
+        ensures { result ≡ told self.now };
+
+    /// What to do about it.
+    fn advice(&self) -> &'static str;
+}
+
+impl Fault for FileFault {
+    ghost told = { file_told };
+
+    fn tells(&self) -> FaultNumbers {
+        self.numbers()
+    }
+
+    fn advice(&self) -> &'static str {
+        match self {
+            FileFault::InNumber(NumberFault::CutShortAt(_)) => {
+                "the file ends inside a number: see that it came whole (docs/FORMAT.md)"
+            }
+            FileFault::InNumber(NumberFault::NotFewestAt(_)) => {
+                "that number is too large or not in its fewest bytes: write it anew (docs/FORMAT.md)"
+            }
+            FileFault::OutOfRange(_) => {
+                "that number is out of range: mend N, the degree or the target (docs/FORMAT.md)"
+            }
+            FileFault::NotRising(_) => {
+                "that target is not above the one before: let each row rise (docs/FORMAT.md)"
+            }
+            FileFault::TableShort(_) => PAGES,
+            FileFault::LeftOver(_) => {
+                "the model ends before that byte: cut off the rest, or mend N (docs/FORMAT.md)"
+            }
+            FileFault::TooLong => {
+                "the file has more than 32767 bytes: give a smaller model (docs/FORMAT.md)"
+            }
+        }
+    }
+}
+
+impl Fault for Gap {
+    ghost told = { gap_told };
+
+    fn tells(&self) -> FaultNumbers {
+        let told = self.numbers();
+        FaultNumbers {
+            layer: 3,
+            cause: told.cause,
+            place: told.place as usize,
+            number: told.number,
+        }
+    }
+
+    fn advice(&self) -> &'static str {
+        match self {
+            Gap::TooMany =>
+                "there are more than 128 states: give a smaller model (docs/ANALYSIS.md)",
+            Gap::EmptyRow { .. } => {
+                "that state has no move: give it one, if only to itself (docs/ANALYSIS.md)"
+            }
+            Gap::NoStates | Gap::Nowhere { .. } => PAGES,
+        }
+    }
+}
+
+/// Prints the fault line, and on standard error what to do next.
+pub fn print_fault<F: Fault>(rt: &HostRuntime, fault: &F) -> io::Result<()> {
+    let mut line = [0; LINE];
+    if let Ok(len) = fault.tells().write(&mut line) {
+        rt.stdout().write_all(&line[0..len])?;
+    }
+    rt.eprintln(fault.advice())
+}
+
+#[cfg(test)]
+mod tests {
+    use super::*;
+
+    #[test]
+    fn faults_of_files(rt: HostRuntime) {
+        let told = [
+            (
+                FileFault::InNumber(NumberFault::CutShortAt(9)),
+                1,
+                "the file ends inside a number: see that it came whole (docs/FORMAT.md)",
+            ),
+            (
+                FileFault::InNumber(NumberFault::NotFewestAt(9)),
+                2,
+                "that number is too large or not in its fewest bytes: write it anew (docs/FORMAT.md)",
+            ),
+            (
+                FileFault::OutOfRange(9),
+                3,
+                "that number is out of range: mend N, the degree or the target (docs/FORMAT.md)",
+            ),
+            (
+                FileFault::NotRising(9),
+                4,
+                "that target is not above the one before: let each row rise (docs/FORMAT.md)",
+            ),
+            (FileFault::TableShort(9), 5, OTHER),
+            (
+                FileFault::LeftOver(9),
+                6,
+                "the model ends before that byte: cut off the rest, or mend N (docs/FORMAT.md)",
+            ),
+            (
+                FileFault::TooLong,
+                7,
+                "the file has more than 32767 bytes: give a smaller model (docs/FORMAT.md)",
+            ),
+        ];
+        for (fault, cause, advice) in told {
+            assert_eq!(rt; fault.tells().cause, cause);
+            assert_eq!(rt; fault.advice(), advice, "cause {cause}");
+        }
+    }
+
+    #[test]
+    fn faults_of_models(rt: HostRuntime) {
+        let told = [
+            (Gap::NoStates, 11, OTHER),
+            (
+                Gap::TooMany,
+                12,
+                "there are more than 128 states: give a smaller model (docs/ANALYSIS.md)",
+            ),
+            (
+                Gap::Nowhere {
+                    state: 3,
+                    number: 1,
+                },
+                14,
+                OTHER,
+            ),
+            (
+                Gap::EmptyRow { state: 3 },
+                15,
+                "that state has no move: give it one, if only to itself (docs/ANALYSIS.md)",
+            ),
+        ];
+        for (gap, cause, advice) in told {
+            assert_eq!(rt; gap.tells().cause, cause);
+            assert_eq!(rt; gap.advice(), advice, "cause {cause}");
+        }
+    }
+
+    const OTHER: &str =
+        "docs/FORMAT.md, docs/ANALYSIS.md and docs/FORMULAS.md say what the cause means";
+}
