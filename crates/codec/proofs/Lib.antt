@@ -1,5 +1,6 @@
 pub mod Places
 pub mod Joins
+pub mod Laid
 pub mod Coding
 pub mod Standing
 pub mod Lines

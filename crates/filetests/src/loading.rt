@@ -1,5 +1,5 @@
 //! Files that are accepted, and each refusal with its place.
-use codec::numbers::{NumberFault, write_number};
+use codec::numbers::{Number, NumberFault};
 use modelfile::LONGEST;
 use modelfile::faults::{FileFault, TextFault};
 use modelfile::reading::load;
@@ -13,10 +13,8 @@ fn loaded(file: &[u8]) -> Result<(u16, usize), FileFault> {
     let mut labels = [Facts::NONE; 6];
     let mut offsets = [0; 6];
     let mut targets = [0; 3];
-    match load(file, &mut labels, &mut offsets, &mut targets) {
-        Ok(found) => Ok((found.states, found.targets)),
-        Err(fault) => Err(fault),
-    }
+    load(file, &mut labels, &mut offsets, &mut targets)
+        .map(|found| (found.states, found.targets))
 }
 
 #[test]
@@ -94,7 +92,7 @@ fn longest_file(rt: HostRuntime) -> Result<(), Fail> {
     let mut file = vec![in heap; 0; LONGEST]?;
     let mut labels = vec![in heap; Facts::NONE; 4096]?;
     let mut offsets = vec![in heap; 0; 4097]?;
-    let mut at = write_number(4096, &mut file, 0).ok_or("room")?;
+    let mut at = Number(4096).write(&mut file, 0).ok_or("room")?;
     for s in 0..4096u64 {
         let bits = if s < 2730 {
             u64::MAX
@@ -103,7 +101,7 @@ fn longest_file(rt: HostRuntime) -> Result<(), Fail> {
         } else {
             0
         };
-        at = write_number(bits, &mut file, at).ok_or("room")?;
+        at = Number(bits).write(&mut file, at).ok_or("room")?;
     }
     assert_eq!(rt; at, LONGEST - 4096);
     let found = load(&file, &mut labels, &mut offsets, &mut [])?;

@@ -5,7 +5,8 @@ ghost use Rattle.modelfile.specs.declared.faults.FileFault.TheVariants.{InNumber
 ghost use Rattle.modelfile.specs.Faults.{number_told, file_told, text_cause, fault_line, TellsFault};
 
 use codec::numbers::NumberFault;
-use codec::text::write_line;
+use codec::pieces::{Piece, Text};
+use codec::text::Line;
 
 /// What is wrong with a model file, and where. A fault of one of its numbers is carried whole.
 #[derive(Clone, Copy, Debug, PartialEq, Eq)]
@@ -108,9 +109,10 @@ impl FaultNumbers {
             self.place as u64,
             self.number as u64,
         ];
-        match write_line(b"fault", &numbers, buffer, 0) {
-            Some(end) => Ok(end),
-            None => Err(TextFault::BufferShort),
-        }
+        let line = Line {
+            name: Text(b"fault"),
+            numbers: &numbers,
+        };
+        line.write(buffer, 0).ok_or(TextFault::BufferShort)
     }
 }

@@ -5,7 +5,8 @@ ghost use Rattle.models.specs.declared.facts.Facts.{Facts as Label};
 ghost use Rattle.modelfile.specs.Files.{RisingRow};
 ghost use Rattle.writing.specs.Writings.{write_cause, SetsHold, RowsHold, Filed, Begun, BeginFault, SetDone, SetFault, Turned, RowDone, RowFault, HandsBack, Lacks};
 
-use crate::append::{append_number, append_row};
+use crate::append::append;
+use codec::numbers::{Counted, Number};
 use kripke::LIMIT;
 use models::facts::Facts;
 
@@ -79,7 +80,7 @@ pub fn begin(buffer: &mut [u8], states: u16) -> Result<Sets, WriteFault>
     if states == 0 || states > LIMIT {
         return Err(WriteFault::BadSize);
     }
-    match append_number(states as u64, buffer, 0) {
+    match append(&Number(states as u64), buffer, 0) {
         Some(len) => Ok(Sets {
             states,
             given: 0,
@@ -108,7 +109,7 @@ impl Sets {
                 writing: self,
             });
         }
-        match append_number(facts.bits, buffer, self.len) {
+        match append(&Number(facts.bits), buffer, self.len) {
             Some(len) => Ok(Sets {
                 states: self.states,
                 given: self.given + 1,
@@ -179,7 +180,7 @@ impl Rows {
                 writing: self,
             });
         }
-        match append_row(targets, buffer, self.len) {
+        match append(&Counted(targets), buffer, self.len) {
             Some(len) => Ok(Rows {
                 states: self.states,
                 given: self.given + 1,

@@ -10,7 +10,8 @@ ghost use Rattle.writing.specs.Trips.{ClosedLoadsBack, SavedLoadsBack, LoadedSav
 ghost use Rattle.writing.specs.Writings.{RowsHold, RowDone, RowFault, HandsBack};
 
 use crate::protocol::{Refused, Rows, Sets, WriteFault, begin, is_rising};
-use codec::numbers::{counted_width, width};
+use codec::numbers::{Counted, Number};
+use codec::pieces::Piece;
 use kripke::NOWHERE;
 use modelfile::LONGEST;
 use models::Model;
@@ -20,9 +21,9 @@ fn labels_width<M: Model>(model: &M) -> usize
     ensures { (labels : List Label) × Labels (M.Model.means model.now) labels × (result ≡ length (codes ((M.Model.means model.now).frame.size ∷ bits_of labels))) }
 {
     let states = model.size();
-    let mut wide = width(states as u64);
+    let mut wide = Number(states as u64).width();
     for s in 0..states {
-        let next = width(model.facts(s).bits);
+        let next = Number(model.facts(s).bits).width();
         wide += next;
     }
     wide
@@ -49,7 +50,7 @@ fn measure_row(targets: &[u16], states: u16, left: usize) -> Result<usize, Write
     if !is_rising(targets, states) {
         return Err(WriteFault::BadRow);
     }
-    match counted_width(targets, left) {
+    match Counted(targets).width_within(left) {
         Some(wide) => Ok(wide),
         None => Err(WriteFault::NoSpace),
     }

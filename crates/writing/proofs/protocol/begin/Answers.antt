@@ -9,6 +9,6 @@ returns-in-Some c =
     let put = c.in-Some.ensures in
     let sized : Sized c.args.states = (omega arith, omega arith) in
     let end = put.1 ∙ zero-add _ in
-    let done : Begun c.args.states c.args.buffer.now c.append_number.new.buffer (record { states = c.args.states; given = 0; len = c.in-Some.len }) =
+    let done : Begun c.args.states c.args.buffer.now c.append.new.buffer (record { states = c.args.states; given = 0; len = c.in-Some.len }) =
     record { sized = sized; space = put.0; state = ap (λ k. record { states = c.args.states; given = 0; len = k }) end; text = put.2 } in
     record { answer = done; holds = begun_holds _ _ _ _ done }

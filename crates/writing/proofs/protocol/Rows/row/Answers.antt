@@ -9,6 +9,6 @@ returns-in-Some c =
     let put = c.in-Some.ensures in
     let more : c.args.self.given < c.args.self.states = search rules in
     let rising : RisingRow c.args.self.states c.args.targets.now = search rules in
-    let done : RowDone c.args.self c.args.targets.now c.args.buffer.now c.append_row.new.buffer (record { states = c.args.self.states; given = c.args.self.given + 1; len = c.in-Some.len }) =
+    let done : RowDone c.args.self c.args.targets.now c.args.buffer.now c.append.new.buffer (record { states = c.args.self.states; given = c.args.self.given + 1; len = c.in-Some.len }) =
     record { more = more; rising = rising; space = put.0; state = ap (λ k. record { states = c.args.self.states; given = c.args.self.given + 1; len = k }) put.1; text = put.2 } in
     record { answer = done; holds = row_holds _ _ _ _ _ done }
