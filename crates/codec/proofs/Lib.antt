@@ -3,4 +3,3 @@ pub mod Joins
 pub mod Laid
 pub mod Coding
 pub mod Standing
-pub mod Lines

@@ -1,5 +1,5 @@
 -- What stands at the front of some bytes, and at a place of a file.
-use Rattle.std.proofs.Common.{◌≡◌, ℕ, zero, suc, Bool, true, false, ltb, MatchBool, IfSome, Option, Some, None, Result, ◌+◌, ◌-◌, ◌*◌, ◌/◌, ◌%◌, ◌^◌, ◌<◌, ◌≤◌, ◌⊎◌, List, [], ◌∷◌, ◌++◌, length, get_or, take, drop, set, Ok, Err, sym, refl, ap, ◌∙◌, subst, inl, inr, pow-suc, add-one, arith}
+use Rattle.std.proofs.Common.{◌≡◌, ℕ, true, false, ltb, IfSome, Option, Some, None, Result, ◌+◌, ◌-◌, ◌*◌, ◌/◌, ◌%◌, ◌^◌, ◌<◌, ◌≤◌, ◌⊎◌, List, [], ◌∷◌, ◌++◌, length, get_or, take, drop, Ok, Err, sym, refl, ap, ◌∙◌, subst, inl, inr, pow-suc, add-one, arith}
 use Rattle.std.proofs.lemmas.List.{append_assoc, append_cancel_left, length-append, length-take-le, take-append-drop, take_at, drop_all, take_more}
 use Rattle.std.proofs.lemmas.Bool.{cases_lt}
 use Rattle.std.proofs.lemmas.Bool.Decides.{nat_tests}
@@ -7,13 +7,13 @@ use Rattle.codec.specs.Numbers.{code}
 use Rattle.std.specs.List.{list_any}
 use Rattle.std.specs.Result.{result_unwrap_or}
 use Rattle.codec.specs.Pieces.{placed, Writes}
-use Rattle.codec.specs.Reading.{Endless, Begins, Refused, RefusedBelow, Stands, Wrong, located, Reads, OneReading, WrittenReadsBack, ReadRewrites}
+use Rattle.codec.specs.Reading.{Endless, Begins, RefusedBelow, Stands, Wrong, Reads, OneReading, WrittenReadsBack, ReadRewrites}
 use Rattle.codec.specs.declared.numbers.Flaw.{Flaw}
 use Rattle.codec.specs.declared.numbers.Flaw.TheVariants.{CutShort, NotFewest}
 use Rattle.codec.specs.declared.numbers.NumberFault.{NumberFault}
 use Rattle.codec.specs.declared.numbers.NumberFault.TheVariants.{CutShortAt, NotFewestAt}
-use Rattle.codec.proofs.Coding.{by_bytes, code_last, code_more, code_on, code_some, width_last, width_more}
-use Rattle.codec.proofs.Places.{placed_one, placed_more, take-placed, length-placed}
+use Rattle.codec.proofs.Coding.{by_bytes, code_last, code_more, code_on, code_some}
+use Rattle.codec.proofs.Places.{take-placed, length-placed}
 
 Alone : List ℕ → List ℕ → ℕ → Type 0
 Alone r s m = (n : ℕ) → code m ++ r ≡ code n ++ s → (m ≡ n) × (r ≡ s)
@@ -143,9 +143,6 @@ lengths file rest i n begins =
     let h = within file rest i n begins in
     ap length (whole file rest i n begins) ∙ simp (length-append, length-take-le) refl
 
-pub rest_within : (file rest : List ℕ) (i n : ℕ) → Begins (drop i file) n rest → length rest ≤ length file
-rest_within file rest i n begins = omega (arith, lengths file rest i n begins)
-
 pub stands : (file rest : List ℕ) (i n : ℕ) → n < 2 ^ 64 → Begins (drop i file) n rest → Stands file i n (length file - length rest)
 stands file rest i n small begins =
     let h = within file rest i n begins in
@@ -168,10 +165,6 @@ byte_stands file i b inside e small = record {
   small = omega arith;
   text = take_more file i 0 inside ∙ ap (λ piece. take i file ++ piece) (ap (λ n. n ∷ []) (sym e) ∙ sym (code_last b small));
 }
-
-pub wrong_at : (flaw : Flaw) (file : List ℕ) (i : ℕ) → Refused flaw (drop i file) → Wrong file i (located flaw i (length file))
-wrong_at CutShort file i r = (refl, r)
-wrong_at NotFewest file i r = (refl, r)
 
 -- and back: where a number stands, the rest of the file begins with it
 pub begins_there : (file : List ℕ) (i n next : ℕ) → Stands file i n next → Begins (drop i file) n (drop next file)

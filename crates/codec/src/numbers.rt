@@ -88,11 +88,8 @@ fn locate(flaw: Flaw, at: usize, end: usize) -> NumberFault
 fn long_number_at(file: &[u8], at: usize) -> Result<(u64, usize), NumberFault>
     ensures { Reads file.now at result }
 {
-    let (number, rest) = read_number(rest_from(file, at)).map_err(|flaw| locate(
-        flaw,
-        at,
-        file.len(),
-    ))?;
+    let found = read_number(rest_from(file, at));
+    let (number, rest) = found.map_err(|flaw| locate(flaw, at, file.len()))?;
     Ok((number, file.len() - rest.len()))
 }
 
@@ -178,24 +175,15 @@ impl Series for Numbers<'_> {
 #[derive(Clone, Copy, Debug, PartialEq, Eq)]
 pub struct Counted<'a>(pub &'a [u16]);
 
-impl<'a> Counted<'a> {
-    // The count, and the numbers.
-    fn parts(&self) -> (Number, All<Numbers<'a>>)
-        ensures { (result.0.0 ≡ length self.now.0.now) × (result.1.0.0.now ≡ self.now.0.now) }
-    {
-        (Number(self.0.len() as u64), All(Numbers(self.0)))
-    }
-}
-
 impl Piece for Counted<'_> {
     ghost bytes = { λ n. codes (counted n.0.now) };
 
     fn width_within(&self, most: usize) -> Option<usize> {
-        self.parts().width_within(most)
+        (Number(self.0.len() as u64), All(Numbers(self.0))).width_within(most)
     }
 
     fn put(&self, space: &mut [u8]) -> usize {
-        self.parts().put(space)
+        (Number(self.0.len() as u64), All(Numbers(self.0))).put(space)
     }
 }
 

@@ -71,21 +71,18 @@ impl Series for Fields<'_> {
     }
 }
 
-/// A name, a space before each number, and a line feed.
+/// A line: a name, the numbers with a space before each, and a line feed.
 #[derive(Clone, Copy, Debug, PartialEq, Eq)]
-pub struct Line<'a, N> {
-    pub name: N,
-    pub numbers: &'a [u64],
-}
+pub struct Line<'a, N>(pub N, pub &'a [u64]);
 
 impl<N: Piece> Piece for Line<'_, N> {
-    ghost bytes = { λ l. line (N.bytes l.name) l.numbers.now };
+    ghost bytes = { λ l. line (N.bytes l.0) l.1.now };
 
     fn width_within(&self, most: usize) -> Option<usize> {
-        ((&self.name, All(Fields(self.numbers))), Byte(b'\n')).width_within(most)
+        ((&self.0, All(Fields(self.1))), Byte(b'\n')).width_within(most)
     }
 
     fn put(&self, space: &mut [u8]) -> usize {
-        ((&self.name, All(Fields(self.numbers))), Byte(b'\n')).put(space)
+        ((&self.0, All(Fields(self.1))), Byte(b'\n')).put(space)
     }
 }

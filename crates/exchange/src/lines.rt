@@ -15,19 +15,11 @@ impl<N: Piece> Piece for Entry<N> {
     ghost bytes = { λ e. line (N.bytes e.0) (e.1 ∷ []) };
 
     fn width_within(&self, most: usize) -> Option<usize> {
-        let line = Line {
-            name: &self.0,
-            numbers: &[self.1],
-        };
-        line.width_within(most)
+        Line(&self.0, &[self.1]).width_within(most)
     }
 
     fn put(&self, space: &mut [u8]) -> usize {
-        let line = Line {
-            name: &self.0,
-            numbers: &[self.1],
-        };
-        line.put(space)
+        Line(&self.0, &[self.1]).put(space)
     }
 }
 

@@ -39,10 +39,7 @@ fn pieces_written(rt: HostRuntime) {
     assert_eq!(rt; buffer, [0xEE, 0x02, 0x01, 0x80, 0x01]);
     assert_eq!(rt; Number(u64::MAX).width(), 10);
     let mut text = [b'-'; 14];
-    let line = Line {
-        name: Text(b"fault"),
-        numbers: &[2, 10, 0],
-    };
+    let line = Line(Text(b"fault"), &[2, 10, 0]);
     assert_eq!(rt; line.write(&mut text, 1), Some(14));
     assert_eq!(rt; text, *b"-fault 2 10 0\n");
     assert_eq!(rt; line.write(&mut text, 2), None);

@@ -61,18 +61,20 @@ impl TextFault {
 }
 
 // Layer 1.
-fn number_fault(fault: NumberFault) -> FaultNumbers
-    ensures { result ≡ number_told fault }
-{
-    let (cause, place) = match fault {
-        NumberFault::CutShortAt(place) => (1, place),
-        NumberFault::NotFewestAt(place) => (2, place),
-    };
-    FaultNumbers {
-        layer: 1,
-        cause,
-        place,
-        number: 0,
+impl From<NumberFault> for FaultNumbers {
+    ghost from_gives = { λ fault r. r ≡ number_told fault };
+
+    fn from(fault: NumberFault) -> FaultNumbers {
+        let (cause, place) = match fault {
+            NumberFault::CutShortAt(place) => (1, place),
+            NumberFault::NotFewestAt(place) => (2, place),
+        };
+        FaultNumbers {
+            layer: 1,
+            cause,
+            place,
+            number: 0,
+        }
     }
 }
 
@@ -82,7 +84,7 @@ impl FileFault {
         ensures { result ≡ file_told self }
     {
         let (cause, place) = match self {
-            FileFault::InNumber(inner) => return number_fault(inner),
+            FileFault::InNumber(inner) => return inner.into(),
             FileFault::OutOfRange(place) => (3, place),
             FileFault::NotRising(place) => (4, place),
             FileFault::TableShort(place) => (5, place),
@@ -109,10 +111,8 @@ impl FaultNumbers {
             self.place as u64,
             self.number as u64,
         ];
-        let line = Line {
-            name: Text(b"fault"),
-            numbers: &numbers,
-        };
-        line.write(buffer, 0).ok_or(TextFault::BufferShort)
+        Line(Text(b"fault"), &numbers)
+            .write(buffer, 0)
+            .ok_or(TextFault::BufferShort)
     }
 }

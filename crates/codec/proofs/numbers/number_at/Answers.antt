@@ -1,4 +1,3 @@
-use Rattle.std.proofs.Common.{refl}
 use Rattle.codec.proofs.Standing.{byte_stands}
 use Rattle.codec.proofs.numbers.number_at.Goals as goal
 

@@ -1,4 +1,4 @@
-use Rattle.std.proofs.Common.{◌<◌, length, sym, arith, rules}
+use Rattle.std.proofs.Common.{◌<◌, length, rules}
 use Rattle.codec.proofs.Laid.{lays_one}
 use Rattle.codec.proofs.pieces.BytePiece.put.Goals as goal
 
