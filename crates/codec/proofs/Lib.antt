@@ -1,5 +1,5 @@
 pub mod Places
 pub mod Joins
+pub mod Laid
 pub mod Coding
 pub mod Standing
-pub mod Lines

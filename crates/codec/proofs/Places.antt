@@ -1,7 +1,6 @@
 -- What is written over a list, and what is then written behind it.
 use Rattle.std.proofs.Common.{◌≡◌, ℕ, suc, ◌+◌, ◌<◌, ◌≤◌, List, [], ◌∷◌, ◌++◌, length, take, drop, set, sym, refl, ap, ◌∙◌, add-zero, add_assoc, arith}
-use lib.Seq.{paste}
-use Rattle.std.proofs.lemmas.List.{append_assoc, drop_at, drop-drop, drop-set-lt, length-append, length-drop, length-take-le, set_split, take_all, take-append-drop, take_at, take_more_set}
+use Rattle.std.proofs.lemmas.List.{append_assoc, drop_at, drop-drop, length-append, length-drop, length-take-le, set_split, take-append-drop, take_at}
 use Rattle.codec.specs.Pieces.{placed}
 
 module _ {X : Type 0} where
@@ -41,13 +40,7 @@ module _ {X : Type 0} where
   placed_then xs middle out ys zs i j h first e second =
       second ∙ (ap (λ us. placed us j zs) first ∙ (ap (λ k. placed (placed xs i ys) k zs) e ∙ placed_on xs ys zs i h))
 
-  -- one element written, and then more behind it
-  pub placed_more : (xs ys : List X) (i : ℕ) (b : X) → i < length xs → placed (set xs i b) (i + 1) ys ≡ placed xs i (b ∷ ys)
-  placed_more xs ys i b h =
-      let lt : i < i + 1 + length ys = omega arith in
-      let same : i + 1 + length ys ≡ i + suc (length ys) = omega arith in
-      rw (take_more_set xs i b h, drop-set-lt (i + 1 + length ys) xs i b lt, append_assoc, same) refl
-
+  -- one element written
   pub placed_one : (xs : List X) (i : ℕ) (b : X) → i < length xs → set xs i b ≡ placed xs i (b ∷ [])
   placed_one xs i b h =
       let same : suc i ≡ i + 1 = omega arith in
@@ -58,9 +51,3 @@ module _ {X : Type 0} where
   placed-set xs middle ys i j b room first e =
       let same : length middle ≡ length xs = ap length first ∙ length-placed xs ys i (omega arith) in
       placed_then xs middle (set middle j b) ys (b ∷ []) i j (omega arith) first e (placed_one middle j b (omega arith))
-
-  -- a copy of a piece into a part of a list
-  pub paste_placed : (xs ys : List X) (i : ℕ) → paste xs i ys (length ys) ≡ placed xs i ys
-  paste_placed xs ys i =
-      ap (λ zs. take i xs ++ zs ++ drop (i + length ys) xs) (take_all (length ys) ys (omega arith))
-      ∙ append_assoc (take i xs) ys (drop (i + length ys) xs)

@@ -1,16 +1,19 @@
 -- What stands at the front of some bytes, and at a place of a file.
-use Rattle.std.proofs.Common.{◌≡◌, ℕ, zero, suc, ◌+◌, ◌-◌, ◌*◌, ◌/◌, ◌%◌, ◌^◌, ◌<◌, ◌≤◌, ◌⊎◌, List, [], ◌∷◌, ◌++◌, length, get_or, take, drop, set, Ok, Err, sym, refl, ap, ◌∙◌, subst, inl, inr, pow-suc, add-one, arith}
+use Rattle.std.proofs.Common.{◌≡◌, ℕ, true, false, ltb, IfSome, Option, Some, None, Result, ◌+◌, ◌-◌, ◌*◌, ◌/◌, ◌%◌, ◌^◌, ◌<◌, ◌≤◌, ◌⊎◌, List, [], ◌∷◌, ◌++◌, length, get_or, take, drop, Ok, Err, sym, refl, ap, ◌∙◌, subst, inl, inr, pow-suc, add-one, arith}
 use Rattle.std.proofs.lemmas.List.{append_assoc, append_cancel_left, length-append, length-take-le, take-append-drop, take_at, drop_all, take_more}
 use Rattle.std.proofs.lemmas.Bool.{cases_lt}
+use Rattle.std.proofs.lemmas.Bool.Decides.{nat_tests}
 use Rattle.codec.specs.Numbers.{code}
-use Rattle.codec.specs.Pieces.{placed}
-use Rattle.codec.specs.Reading.{Endless, Begins, Refused, RefusedBelow, Stands, Wrong, located, OneReading, WrittenReadsBack, ReadRewrites}
+use Rattle.std.specs.List.{list_any}
+use Rattle.std.specs.Result.{result_unwrap_or}
+use Rattle.codec.specs.Pieces.{placed, Writes}
+use Rattle.codec.specs.Reading.{Endless, Begins, RefusedBelow, Stands, Wrong, Reads, OneReading, WrittenReadsBack, ReadRewrites}
 use Rattle.codec.specs.declared.numbers.Flaw.{Flaw}
 use Rattle.codec.specs.declared.numbers.Flaw.TheVariants.{CutShort, NotFewest}
 use Rattle.codec.specs.declared.numbers.NumberFault.{NumberFault}
 use Rattle.codec.specs.declared.numbers.NumberFault.TheVariants.{CutShortAt, NotFewestAt}
-use Rattle.codec.proofs.Coding.{by_bytes, code_last, code_more, code_on, code_some, width_last, width_more}
-use Rattle.codec.proofs.Places.{placed_one, placed_more, take-placed, length-placed}
+use Rattle.codec.proofs.Coding.{by_bytes, code_last, code_more, code_on, code_some}
+use Rattle.codec.proofs.Places.{take-placed, length-placed}
 
 Alone : List ℕ → List ℕ → ℕ → Type 0
 Alone r s m = (n : ℕ) → code m ++ r ≡ code n ++ s → (m ≡ n) × (r ≡ s)
@@ -55,14 +58,14 @@ ends n rest =
     (λ m a ih e. let p : Endless ((m % 128 + 128) ∷ (code (m / 128) ++ rest)) = rw (code_more m a) at e in ih p.1)
     n
 
-pub endless_at : (bs : List ℕ) → ((k : ℕ) → k < length bs → 128 ≤ get_or bs k 0) → Endless bs
-endless_at [] h = tt
-endless_at (b ∷ bs) h = (h 0 (omega arith), endless_at bs (λ k l. h (suc k) (omega arith)))
+-- no byte is below 80, or some byte is
+pub endless_if : (bs : List ℕ) → false ≡ list_any (λ b. ltb b 128) bs → Endless bs
+endless_if [] e = tt
+endless_if (b ∷ bs) e = grind (arith, nat_tests, endless_if bs)
 
-pub not_endless : (bs : List ℕ) (k : ℕ) → k < length bs → get_or bs k 0 < 128 → Endless bs → ⊥
-not_endless [] k h low e = omega arith
-not_endless (b ∷ bs) zero h low e = omega (arith, e.0)
-not_endless (b ∷ bs) (suc k) h low e = not_endless bs k (omega arith) low e.1
+pub not_endless_if : (bs : List ℕ) → true ≡ list_any (λ b. ltb b 128) bs → Endless bs → ⊥
+not_endless_if [] e h = absurd (cc)
+not_endless_if (b ∷ bs) e h = grind (arith, nat_tests, not_endless_if bs)
 
 -- what stands in the way of a number stands in its way behind one more byte
 pub refused_on : (k : ℕ) (e : Flaw) (b : ℕ) (bs : List ℕ) → 128 ≤ b → RefusedBelow (128 ^ k) e bs → RefusedBelow (128 ^ (k + 1)) e (b ∷ bs)
@@ -119,16 +122,6 @@ begins_on bs rest after b high split low byte some begins =
     let on = code_on b high low byte some in
     rw on (rw begins at split)
 
-pub put_last : (xs : List ℕ) (i n : ℕ) → n < 128 → i + length (code n) ≤ length xs → set xs i n ≡ placed xs i (code n)
-put_last xs i n small room =
-    let one = width_last n small in
-    rw (code_last n small) (placed_one xs i n (omega arith))
-
-pub put_more : (xs out : List ℕ) (i n : ℕ) → 128 ≤ n → i + length (code n) ≤ length xs → out ≡ placed (set xs i (n % 128 + 128)) (i + 1) (code (n / 128)) → out ≡ placed xs i (code n)
-put_more xs out i n large room e =
-    let more = width_more n large in
-    rw (code_more n large) (e ∙ placed_more xs (code (n / 128)) i (n % 128 + 128) (omega arith))
-
 -- from the bytes behind a place to places in the file
 whole : (file rest : List ℕ) (i n : ℕ) → Begins (drop i file) n rest → file ≡ (take i file ++ code n) ++ rest
 whole file rest i n begins =
@@ -150,9 +143,6 @@ lengths file rest i n begins =
     let h = within file rest i n begins in
     ap length (whole file rest i n begins) ∙ simp (length-append, length-take-le) refl
 
-pub rest_within : (file rest : List ℕ) (i n : ℕ) → Begins (drop i file) n rest → length rest ≤ length file
-rest_within file rest i n begins = omega (arith, lengths file rest i n begins)
-
 pub stands : (file rest : List ℕ) (i n : ℕ) → n < 2 ^ 64 → Begins (drop i file) n rest → Stands file i n (length file - length rest)
 stands file rest i n small begins =
     let h = within file rest i n begins in
@@ -168,17 +158,13 @@ stands file rest i n small begins =
     }
 
 -- a byte below 80 is a number of its own
-pub byte_stands : (file : List ℕ) (i : ℕ) → i < length file → get_or file i 0 < 128 → Stands file i (get_or file i 0) (i + 1)
-byte_stands file i inside small = record {
+pub byte_stands : (file : List ℕ) (i b : ℕ) → i < length file → b ≡ get_or file i 0 → b < 128 → Stands file i b (i + 1)
+byte_stands file i b inside e small = record {
   inside = omega arith;
   on = omega arith;
   small = omega arith;
-  text = take_more file i 0 inside ∙ ap (λ piece. take i file ++ piece) (sym (code_last (get_or file i 0) small));
+  text = take_more file i 0 inside ∙ ap (λ piece. take i file ++ piece) (ap (λ n. n ∷ []) (sym e) ∙ sym (code_last b small));
 }
-
-pub wrong_at : (flaw : Flaw) (file : List ℕ) (i : ℕ) → Refused flaw (drop i file) → Wrong file i (located flaw i (length file))
-wrong_at CutShort file i r = (refl, r)
-wrong_at NotFewest file i r = (refl, r)
 
 -- and back: where a number stands, the rest of the file begins with it
 pub begins_there : (file : List ℕ) (i n next : ℕ) → Stands file i n next → Begins (drop i file) n (drop next file)
@@ -243,6 +229,18 @@ placed_stands before after at n end small e room is =
 
 pub written_reads_back : WrittenReadsBack
 written_reads_back before after at n end small w = placed_stands before after at n end small w.0 w.1 w.2
+
+-- a number that is written stands there
+pub written_stands : (before after : List ℕ) (at n : ℕ) (answer : Option ℕ) → n < 2 ^ 64 → Writes (code n) before at after answer → IfSome answer (λ end. Stands after at n end)
+written_stands before after at n None small w = tt
+written_stands before after at n (Some end) small w = written_reads_back before after at n end small w
+
+-- what a reader answers, for a number that stands there
+pub known : (file : List ℕ) (at : ℕ) (answer : Result (ℕ × ℕ) NumberFault) (none told : ℕ × ℕ) → Reads file at answer → told ≡ result_unwrap_or answer none → (n next : ℕ) → Stands file at n next → (n ≡ told.0) × (next ≡ told.1)
+known file at (Ok p) none told reads e n next there =
+    let same = one_stands file at _ _ _ _ there reads in
+    (same.0 ∙ ap (λ q. q.0) (sym e), same.1 ∙ ap (λ q. q.1) (sym e))
+known file at (Err e) none told wrong _ n next there = absurd (not_wrong file at _ _ e there wrong)
 
 pub read_rewrites : ReadRewrites
 read_rewrites file at n next there =

@@ -6,9 +6,5 @@ use Rattle.std.specs.List.{flat_map}
 abbrev pub field : ℕ → List ℕ
 field n = 32 ∷ decimal n
 
--- what follows the name
-abbrev pub ending : List ℕ → List ℕ
-ending numbers = flat_map field numbers ++ (10 ∷ [])
-
 abbrev pub line : List ℕ → List ℕ → List ℕ
 line name numbers = (name ++ flat_map field numbers) ++ (10 ∷ [])

@@ -1,10 +1,11 @@
 //! Numbers as a file has them: seven bits to a byte, the lowest group first, in the fewest bytes.
-ghost use Rattle.std.specs.Prelude.{◌≡◌, ℕ, ◌+◌, ◌^◌, ◌<◌, ◌≤◌, length, drop, IfSome, MatchBool, MatchOption, MatchResult};
+ghost use Rattle.std.specs.Prelude.{◌≡◌, ℕ, ◌+◌, ◌^◌, length, drop, nat_lt, IfSome, MatchResult};
+ghost use Rattle.std.specs.List.{list_any};
 ghost use Rattle.codec.specs.Numbers.{code, codes, counted, EachCodeIsShortest};
-ghost use Rattle.codec.specs.Pieces.{placed, Writes};
+ghost use Rattle.codec.specs.Pieces.{Writes};
 ghost use Rattle.codec.specs.Reading.{Begins, Endless, Refused, RefusedBelow, Reads, Stands, located, OneReading, WrittenReadsBack, ReadRewrites};
 
-use crate::fits;
+use crate::pieces::{All, Byte, Piece, Series, within};
 
 /// What is wrong with a number of a file, and where.
 #[derive(Clone, Copy, Debug, PartialEq, Eq)]
@@ -30,14 +31,9 @@ const HIGH_LIMIT: u64 = 0x0200_0000_0000_0000;
 
 // Whether some byte is below 0x80, so that a number ends.
 fn has_end(bytes: &[u8]) -> bool
-    ensures { MatchBool result (Endless bytes.now → ⊥) (Endless bytes.now) }
+    ensures { result ≡ list_any (λ b. nat_lt b 128) bytes.now }
 {
-    for byte in bytes {
-        if *byte < MORE {
-            return true;
-        }
-    }
-    false
+    bytes.iter().any(|byte| *byte < MORE)
 }
 
 // Takes the number at the front of `bytes`, and what follows it; at most `more` bytes follow its first.
@@ -75,7 +71,7 @@ fn read_number(bytes: &[u8]) -> Result<(u64, &[u8]), Flaw>
 fn rest_from(file: &[u8], at: usize) -> &[u8]
     ensures { result.now ≡ drop at file.now }
 {
-    if at < file.len() { &file[at..] } else { &[] }
+    file.get(at..).unwrap_or(&[])
 }
 
 // The flaw of the number that begins at `at`, in bytes that end at `end`.
@@ -92,10 +88,9 @@ fn locate(flaw: Flaw, at: usize, end: usize) -> NumberFault
 fn long_number_at(file: &[u8], at: usize) -> Result<(u64, usize), NumberFault>
     ensures { Reads file.now at result }
 {
-    match read_number(rest_from(file, at)) {
-        Ok((number, rest)) => Ok((number, file.len() - rest.len())),
-        Err(flaw) => Err(locate(flaw, at, file.len())),
-    }
+    let found = read_number(rest_from(file, at));
+    let (number, rest) = found.map_err(|flaw| locate(flaw, at, file.len()))?;
+    Ok((number, file.len() - rest.len()))
 }
 
 /// The number that begins at `at`, and where the next begins; past the end a number is cut short.
@@ -103,10 +98,10 @@ pub fn number_at(file: &[u8], at: usize) -> Result<(u64, usize), NumberFault>
     ensures { Reads file.now at result }
 {
     // nearly all numbers of a file are a byte of their own, and no more is done for them
-    if at < file.len() && file[at] < MORE {
-        return Ok((file[at] as u64, at + 1));
+    match file.get(at) {
+        Some(byte) if *byte < MORE => Ok((*byte as u64, at + 1)),
+        _ => long_number_at(file, at),
     }
-    long_number_at(file, at)
 }
 
 /// The number that stands at `at`, and where the next begins, for a file that was read before.
@@ -114,102 +109,82 @@ pub fn number_at(file: &[u8], at: usize) -> Result<(u64, usize), NumberFault>
 pub fn known_number(file: &[u8], at: usize) -> (u64, usize)
     ensures { (n next : ℕ) → Stands file.now at n next → (n ≡ result.0) × (next ≡ result.1) }
 {
-    match number_at(file, at) {
-        Ok(found) => found,
-        Err(_) => (0, at),
-    }
+    number_at(file, at).unwrap_or((0, at))
 }
 
-/// How many bytes the number takes.
-pub fn width(number: u64) -> usize
-    ensures { result ≡ length (code number) }
-{
-    if number < 128 {
-        1
-    } else {
-        width(number / 128) + 1
-    }
-}
+/// A number as a file has it.
+#[derive(Clone, Copy, Debug, PartialEq, Eq)]
+pub struct Number(pub u64);
 
-// Writes the number from `at` on, and answers where it ends.
-fn put(number: u64, buffer: &mut [u8], at: usize) -> usize
-    requires { at + length (code number) ≤ length buffer.old }
-    ensures end { result ≡ at + length (code number) }
-    ensures after { buffer.new ≡ placed buffer.old at (code number) }
-{
-    if number < 128 {
-        buffer[at] = number as u8;
-        at + 1
-    } else {
-        buffer[at] = (number % 128) as u8 + MORE;
-        put(number / 128, buffer, at + 1)
-    }
-}
-
-/// Writes the number from `at` on, and answers where it ends; writes nothing where it has no room.
-/// A reader then finds it there.
-pub fn write_number(number: u64, buffer: &mut [u8], at: usize) -> Option<usize>
-    ensures writes { Writes (code number) buffer.old at buffer.new result }
-    ensures stands { IfSome result (λ end. Stands buffer.new at number end) }
-{
-    if !fits(buffer.len(), at, width(number)) {
-        return None;
-    }
-    Some(put(number, buffer, at))
-}
-
-// How many bytes the numbers take, where that is at most `most`.
-fn codes_width(numbers: &[u16], most: usize) -> Option<usize>
-    ensures { MatchOption result (most < length (codes numbers.now)) (λ wide. (wide ≡ length (codes numbers.now)) × (wide ≤ most)) }
-{
-    let mut wide = 0;
-    for number in numbers {
-        let next = width(*number as u64);
-        if next > most - wide {
-            return None;
+impl Number {
+    /// How many bytes the number takes.
+    pub fn width(self) -> usize
+        ensures { result ≡ length (code self.0) }
+    {
+        if self.0 < 128 {
+            1
+        } else {
+            Number(self.0 / 128).width() + 1
         }
-        wide += next;
     }
-    Some(wide)
+
+    /// Writes the number from `at` on, and answers where it ends; writes nothing where it has no room.
+    /// A reader then finds it there.
+    pub fn write(self, buffer: &mut [u8], at: usize) -> Option<usize>
+        ensures writes { Writes (code self.0) buffer.old at buffer.new result }
+        ensures stands { IfSome result (λ end. Stands buffer.new at self.0 end) }
+    {
+        Piece::write(&self, buffer, at)
+    }
 }
 
-// Writes the numbers from `from` on, and answers where the last ends.
-fn put_codes(numbers: &[u16], buffer: &mut [u8], from: usize) -> usize
-    requires { from + length (codes numbers.now) ≤ length buffer.old }
-    ensures end { result ≡ from + length (codes numbers.now) }
-    ensures after { buffer.new ≡ placed buffer.old from (codes numbers.now) }
-{
-    let mut at = from;
-    for number in numbers {
-        at = put(*number as u64, buffer, at);
+impl Piece for Number {
+    ghost bytes = { λ n. code n.0 };
+
+    fn width_within(&self, most: usize) -> Option<usize> {
+        within(self.width(), most)
     }
-    at
+
+    fn put(&self, space: &mut [u8]) -> usize {
+        if self.0 < 128 {
+            return Byte(self.0 as u8).put(space);
+        }
+        let end = Byte((self.0 % 128) as u8 + MORE).put(space);
+        end + Number(self.0 / 128).put(&mut space[end..])
+    }
 }
 
-/// How many bytes it takes to write how many numbers there are and then each of them, where that is at most `most`.
-pub fn counted_width(numbers: &[u16], most: usize) -> Option<usize>
-    ensures { MatchOption result (most < length (codes (counted numbers.now))) (λ wide. (wide ≡ length (codes (counted numbers.now))) × (wide ≤ most)) }
-{
-    let count = width(numbers.len() as u64);
-    if count > most {
-        return None;
+/// Numbers one after another.
+#[derive(Clone, Copy, Debug, PartialEq, Eq)]
+pub struct Numbers<'a>(pub &'a [u16]);
+
+impl Series for Numbers<'_> {
+    type Part = Number;
+
+    ghost text = { λ n. codes n.0.now };
+
+    ghost left = { λ n. length n.0.now };
+
+    fn split_first(self) -> Option<(Number, Self)> {
+        let (first, rest) = self.0.split_first()?;
+        Some((Number(*first as u64), Numbers(rest)))
     }
-    let others = codes_width(numbers, most - count)?;
-    Some(count + others)
 }
 
-/// Writes how many numbers there are and then each of them, from `at` on, and answers where the last ends;
-/// writes nothing where they have no room.
-pub fn write_counted(numbers: &[u16], buffer: &mut [u8], at: usize) -> Option<usize>
-    ensures { Writes (codes (counted numbers.now)) buffer.old at buffer.new result }
-{
-    if at > buffer.len() {
-        return None;
+/// How many numbers there are, and then each of them.
+#[derive(Clone, Copy, Debug, PartialEq, Eq)]
+pub struct Counted<'a>(pub &'a [u16]);
+
+impl Piece for Counted<'_> {
+    ghost bytes = { λ n. codes (counted n.0.now) };
+
+    fn width_within(&self, most: usize) -> Option<usize> {
+        (Number(self.0.len() as u64), All(Numbers(self.0))).width_within(most)
     }
-    let room = buffer.len() - at;
-    let _wide = counted_width(numbers, room)?;
-    let from = put(numbers.len() as u64, buffer, at);
-    Some(put_codes(numbers, buffer, from))
+
+    fn put(&self, space: &mut [u8]) -> usize {
+        (Number(self.0.len() as u64), All(Numbers(self.0))).put(space)
+    }
 }
 
 /// The laws of numbers: each is written in its fewest bytes, a reader has one answer, what is written

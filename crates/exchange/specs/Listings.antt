@@ -1,5 +1,5 @@
 -- What a listing says of a model, and what the call that writes it answers and leaves.
-use Rattle.std.specs.Prelude.{◌≡◌, ℕ, zero, suc, ◌<◌, ◌≤◌, false, List, [], ◌∷◌, ◌++◌, length, take, IfOk, None, Result, MatchResult}
+use Rattle.std.specs.Prelude.{◌≡◌, ℕ, zero, suc, ◌<◌, ◌≤◌, if◌then◌else◌, false, List, [], ◌∷◌, ◌++◌, length, None, Result, MatchResult}
 use Rattle.std.specs.List.{flat_map}
 use Rattle.kripke.specs.Models.{Kripke}
 use Rattle.kripke.specs.Relation.{Settles}
@@ -12,13 +12,15 @@ use Rattle.merger.specs.Tells.{Sums}
 use Rattle.merger.specs.declared.analysis.Analysis.{Analysis}
 use Rattle.merger.specs.declared.answers.Refusal.{Refusal}
 use Rattle.merger.specs.declared.answers.Summary.{Summary}
-use Rattle.exchange.specs.Texts.{line_text}
-use Rattle.exchange.specs.declared.lines.Line.{Line}
-use Rattle.exchange.specs.declared.lines.Line.TheVariants.{States, Components, Labels, Rounds, Classes, Member}
+use Rattle.exchange.specs.Texts.{Line, States, Components, Labels, Rounds, Classes, Member, line_text}
 
 -- the class of a state by the tables of an analysis
 abbrev pub class_in : Analysis → ℕ → ℕ
 class_in a s = class_of a.found a.rounds s
+
+-- how many states have a class
+abbrev pub states_in : Analysis → ℕ
+states_in a = (if a.opened then a.found.states else 0)
 
 -- the counts, each with its name
 abbrev pub count_lines : Summary → List Line
@@ -37,13 +39,6 @@ pub record Lines (M : Kripke) (r : ℕ) (lines : List Line) : Type 0 where
   pub class : ℕ → ℕ
   pub classed : Numbered M r class counts.classes
   pub are : lines ≡ count_lines counts ++ members class M.frame.size
-
--- the lines put at the front of a table, or why there are none
-pub record LinesAnswer (a : Analysis) (lines : List Line) (answer : Result ℕ Refusal) : Type 0 where
-  pub few : IfOk answer (λ count. count ≤ length lines)
-  pub shut : a.opened ≡ false → Refused answer 21 None
-  pub going : (M : Kripke) (r : ℕ) → Analysed M r a → (Settles M r → ⊥) → Refused answer 24 None
-  pub settled : (M : Kripke) (r : ℕ) → Analysed M r a → Settles M r → MatchResult answer (λ count. Lines M r (take count lines)) (λ _. ⊥)
 
 -- the text of some lines
 abbrev pub text_of : List Line → List ℕ

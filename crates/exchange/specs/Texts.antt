@@ -1,8 +1,15 @@
 -- The lines of a listing as text.
 use Rattle.std.specs.Prelude.{ℕ, List, [], ◌∷◌, codes, decimal}
 use Rattle.codec.specs.Texts.{line}
-use Rattle.exchange.specs.declared.lines.Line.{Line}
-use Rattle.exchange.specs.declared.lines.Line.TheVariants.{States, Components, Labels, Rounds, Classes, Member}
+
+-- a line: a count with its name, or a state and its class
+pub data Line : Type 0 where
+  States : ℕ → Line
+  Components : ℕ → Line
+  Labels : ℕ → Line
+  Rounds : ℕ → Line
+  Classes : ℕ → Line
+  Member : ℕ → ℕ → Line
 
 -- a name or a state, a space, a number in decimal, and a line feed
 abbrev pub line_text : Line → List ℕ

@@ -1,6 +1,6 @@
 //! Files that are accepted, and each refusal with its place.
 use crate::long::long_label;
-use codec::numbers::{NumberFault, write_number};
+use codec::numbers::{Number, NumberFault};
 use modelfile::LONGEST;
 use modelfile::faults::{FileFault, TextFault};
 use modelfile::reading::{Tables, load};
@@ -105,9 +105,9 @@ fn longest_file(rt: HostRuntime) -> Result<(), Fail> {
     let mut file = vec![in heap; 0; LONGEST]?;
     let mut labels = vec![in heap; Facts::NONE; 4096]?;
     let mut offsets = vec![in heap; 0; 4097]?;
-    let mut at = write_number(4096, &mut file, 0).ok_or("room")?;
+    let mut at = Number(4096).write(&mut file, 0).ok_or("room")?;
     for s in 0..4096 {
-        at = write_number(long_label(s, 1 << 21), &mut file, at).ok_or("room")?;
+        at = Number(long_label(s, 1 << 21)).write(&mut file, at).ok_or("room")?;
     }
     assert_eq!(rt; at, LONGEST - 4096);
     let mut tables = Tables {

@@ -1,6 +1,7 @@
 //! Numbers and text in a buffer.
-use codec::numbers::{NumberFault, number_at, width, write_counted, write_number};
-use codec::text::write_line;
+use codec::numbers::{Counted, Number, NumberFault, number_at};
+use codec::pieces::{Piece, Text};
+use codec::text::Line;
 
 #[test]
 fn numbers_read(rt: HostRuntime) {
@@ -30,15 +31,16 @@ fn numbers_read(rt: HostRuntime) {
 #[test]
 fn pieces_written(rt: HostRuntime) {
     let mut buffer = [0xEE; 5];
-    assert_eq!(rt; write_number(300, &mut buffer, 1), Some(3));
+    assert_eq!(rt; Number(300).write(&mut buffer, 1), Some(3));
     assert_eq!(rt; buffer, [0xEE, 0xAC, 0x02, 0xEE, 0xEE]);
-    assert_eq!(rt; write_number(300, &mut buffer, 4), None);
-    assert_eq!(rt; write_counted(&[1, 128], &mut buffer, 2), None);
-    assert_eq!(rt; write_counted(&[1, 128], &mut buffer, 1), Some(5));
+    assert_eq!(rt; Number(300).write(&mut buffer, 4), None);
+    assert_eq!(rt; Counted(&[1, 128]).write(&mut buffer, 2), None);
+    assert_eq!(rt; Counted(&[1, 128]).write(&mut buffer, 1), Some(5));
     assert_eq!(rt; buffer, [0xEE, 0x02, 0x01, 0x80, 0x01]);
-    assert_eq!(rt; width(u64::MAX), 10);
+    assert_eq!(rt; Number(u64::MAX).width(), 10);
     let mut text = [b'-'; 14];
-    assert_eq!(rt; write_line(b"fault", &[2, 10, 0], &mut text, 1), Some(14));
+    let line = Line(Text(b"fault"), &[2, 10, 0]);
+    assert_eq!(rt; line.write(&mut text, 1), Some(14));
     assert_eq!(rt; text, *b"-fault 2 10 0\n");
-    assert_eq!(rt; write_line(b"fault", &[2, 10, 0], &mut text, 2), None);
+    assert_eq!(rt; line.write(&mut text, 2), None);
 }

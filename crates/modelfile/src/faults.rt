@@ -5,7 +5,8 @@ ghost use Rattle.modelfile.specs.declared.faults.FileFault.TheVariants.{InNumber
 ghost use Rattle.modelfile.specs.Faults.{number_told, file_told, text_cause, fault_line, TellsFault};
 
 use codec::numbers::NumberFault;
-use codec::text::write_line;
+use codec::pieces::{Piece, Text};
+use codec::text::Line;
 
 /// What is wrong with a model file, and where. A fault of one of its numbers is carried whole.
 #[derive(Clone, Copy, Debug, PartialEq, Eq)]
@@ -60,18 +61,20 @@ impl TextFault {
 }
 
 // Layer 1.
-fn number_fault(fault: NumberFault) -> FaultNumbers
-    ensures { result ≡ number_told fault }
-{
-    let (cause, place) = match fault {
-        NumberFault::CutShortAt(place) => (1, place),
-        NumberFault::NotFewestAt(place) => (2, place),
-    };
-    FaultNumbers {
-        layer: 1,
-        cause,
-        place,
-        number: 0,
+impl From<NumberFault> for FaultNumbers {
+    ghost from_gives = { λ fault r. r ≡ number_told fault };
+
+    fn from(fault: NumberFault) -> FaultNumbers {
+        let (cause, place) = match fault {
+            NumberFault::CutShortAt(place) => (1, place),
+            NumberFault::NotFewestAt(place) => (2, place),
+        };
+        FaultNumbers {
+            layer: 1,
+            cause,
+            place,
+            number: 0,
+        }
     }
 }
 
@@ -81,7 +84,7 @@ impl FileFault {
         ensures { result ≡ file_told self }
     {
         let (cause, place) = match self {
-            FileFault::InNumber(inner) => return number_fault(inner),
+            FileFault::InNumber(inner) => return inner.into(),
             FileFault::OutOfRange(place) => (3, place),
             FileFault::NotRising(place) => (4, place),
             FileFault::TableShort(place) => (5, place),
@@ -108,9 +111,8 @@ impl FaultNumbers {
             self.place as u64,
             self.number as u64,
         ];
-        match write_line(b"fault", &numbers, buffer, 0) {
-            Some(end) => Ok(end),
-            None => Err(TextFault::BufferShort),
-        }
+        Line(Text(b"fault"), &numbers)
+            .write(buffer, 0)
+            .ok_or(TextFault::BufferShort)
     }
 }

@@ -5,7 +5,8 @@ ghost use Rattle.models.specs.declared.facts.Facts.{Facts as Label};
 ghost use Rattle.modelfile.specs.Files.{RisingRow};
 ghost use Rattle.writing.specs.Writings.{write_cause, SetsHold, RowsHold, Filed, Begun, BeginFault, SetDone, SetFault, Turned, RowDone, RowFault, HandsBack, Lacks};
 
-use crate::append::{append_number, append_row};
+use crate::append::append;
+use codec::numbers::{Counted, Number};
 use kripke::LIMIT;
 use models::facts::Facts;
 
@@ -112,7 +113,7 @@ pub fn begin(buffer: &mut [u8], states: u16) -> Result<Sets, WriteFault>
     if states == 0 || states > LIMIT {
         return Err(WriteFault::BadSize);
     }
-    let len = append_number(states as u64, buffer, 0).ok_or(WriteFault::NoSpace)?;
+    let len = append(&Number(states as u64), buffer, 0).ok_or(WriteFault::NoSpace)?;
     let sets = Progress {
         states,
         given: 0,
@@ -130,7 +131,7 @@ impl Sets {
         if self.sets.is_full() {
             return Err(Refused::new(self, WriteFault::AllGiven));
         }
-        let Some(len) = append_number(facts.bits, buffer, self.sets.len) else {
+        let Some(len) = append(&Number(facts.bits), buffer, self.sets.len) else {
             return Err(Refused::new(self, WriteFault::NoSpace));
         };
         let sets = self.sets.with_next(len);
@@ -172,7 +173,7 @@ impl Rows {
         if !is_rising(targets, self.rows.states) {
             return Err(Refused::new(self, WriteFault::BadRow));
         }
-        let Some(len) = append_row(targets, buffer, self.rows.len) else {
+        let Some(len) = append(&Counted(targets), buffer, self.rows.len) else {
             return Err(Refused::new(self, WriteFault::NoSpace));
         };
         let rows = self.rows.with_next(len);

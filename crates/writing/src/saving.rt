@@ -10,7 +10,8 @@ ghost use Rattle.writing.specs.Trips.{ClosedLoadsBack, SavedLoadsBack, LoadedSav
 ghost use Rattle.writing.specs.Writings.{RowsHold, RowDone, RowFault, HandsBack};
 
 use crate::protocol::{Rows, Sets, WriteFault, begin, is_rising};
-use codec::numbers::{counted_width, width};
+use codec::numbers::{Counted, Number};
+use codec::pieces::Piece;
 use kripke::{LIMIT, NOWHERE};
 use modelfile::LONGEST;
 use models::Model;
@@ -20,10 +21,10 @@ fn labels_width<M: Model>(model: &M) -> usize
     ensures { (labels : List Label) × Labels (M.Model.means model.now) labels × (result ≡ length (codes ((M.Model.means model.now).frame.size ∷ bits_of labels))) }
 {
     let states = model.size();
-    let mut wide = width(states as u64);
+    let mut wide = Number(states as u64).width();
     // Kept: of a `map` and `sum` here the check leaves open whose labels have these widths, and that the sum fits.
     for s in 0..states {
-        wide += width(model.facts(s).bits);
+        wide += Number(model.facts(s).bits).width();
     }
     wide
 }
@@ -49,7 +50,7 @@ fn row_width(targets: &[u16], states: u16, left: usize) -> Result<usize, WriteFa
     if !is_rising(targets, states) {
         return Err(WriteFault::BadRow);
     }
-    counted_width(targets, left).ok_or(WriteFault::NoSpace)
+    Counted(targets).width_within(left).ok_or(WriteFault::NoSpace)
 }
 
 // How many bytes the file of the model takes of the space, or why it is refused.

@@ -6,7 +6,7 @@ use Rattle.std.proofs.lemmas.Result.{err_from_is_err_and}
 use Rattle.codec.specs.Reading.{Endless, RefusedBelow}
 use Rattle.codec.specs.declared.numbers.Flaw.TheVariants.{NotFewest}
 use Rattle.codec.proofs.Coding.{code_last}
-use Rattle.codec.proofs.Standing.{begins_on, refused_on, refused_at, refused_past}
+use Rattle.codec.proofs.Standing.{begins_on, endless_if, not_endless_if, refused_on, refused_at, refused_past}
 use Rattle.codec.proofs.numbers.+take_number.Goals as goal
 
 pub returns-in_err-high-in-len1-up-2 : goal.returns-in_err-high-in-len1-up-2
@@ -39,8 +39,8 @@ returns-else-high-ge-HIGH_LIMIT t c =
 pub returns-then-has_end : goal.returns-then-has_end
 returns-then-has_end t c =
     subst (RefusedBelow (128 ^ (c.args.more + 1)) NotFewest) (sym (first_rest c.args.bytes.now 0 (omega (arith, ltb-false))))
-    (refused_past _ _ _ c.if-more-eq0.true c.if-last-lt-MORE.false c.if-has_end.ensures)
+    (refused_past _ _ _ c.if-more-eq0.true c.if-last-lt-MORE.false (not_endless_if _ c.if-has_end.ensures))
 
 pub returns-else-has_end : goal.returns-else-has_end
 returns-else-has_end t c =
-    subst Endless (sym (first_rest c.args.bytes.now 0 (omega (arith, ltb-false)))) (c.if-last-lt-MORE.false, c.if-has_end.ensures)
+    subst Endless (sym (first_rest c.args.bytes.now 0 (omega (arith, ltb-false)))) (c.if-last-lt-MORE.false, endless_if _ c.if-has_end.ensures)
