@@ -1,2 +1,1 @@
 pub mod Faults
-pub mod Tables

@@ -2,14 +2,11 @@
 #![tactic(auto)]
 
 ghost use Rattle.std.specs.Prelude.{◌≡◌, ◌+◌, take};
-ghost use Rattle.console.specs.Tables.{LoadAnswer};
 
 use crate::faults::print_fault;
 use anyhow::anyhow;
 use kripke::LIMIT;
-use modelfile::LONGEST;
-use modelfile::faults::FileFault;
-use modelfile::reading::{self, Loaded};
+use modelfile::{LONGEST, reading};
 use models::facts::Facts;
 use models::listed::Listed;
 use std::alloc::{AllocError, Global};
@@ -42,24 +39,13 @@ impl Tables {
         })
     }
 
-    /// Loads a model file, and answers the model that it denotes.
-    pub fn load(&mut self, file: &[u8]) -> Result<Listed<'_, Facts>, FileFault>
-        ensures { LoadAnswer self.old file.now result }
-    {
-        let Loaded { states, targets } = reading::load(
-            file,
-            &mut reading::Tables {
-                labels: &mut self.labels,
-                offsets: &mut self.offsets,
-                targets: &mut self.targets,
-            },
-        )?;
-        let n = states as usize;
-        Ok(Listed {
-            labels: &self.labels[0..n],
-            offsets: &self.offsets[0..n + 1],
-            targets: &self.targets[0..targets],
-        })
+    /// The tables, lent to be loaded into.
+    pub fn lend(&mut self) -> reading::Tables<'_> {
+        reading::Tables {
+            labels: &mut self.labels,
+            offsets: &mut self.offsets,
+            targets: &mut self.targets,
+        }
     }
 
     /// The model that was loaded, if it has so many states.
@@ -145,8 +131,9 @@ pub fn with_model<F: FnOnce(&Listed<'_, Facts>) -> anyhow::Result<()>>(
 {
     let file = read_file(rt)?;
     let mut tables = Tables::new(rt.alloc())?;
-    match tables.load(&file) {
-        Ok(model) => job(&model),
+    let mut lent = tables.lend();
+    match reading::load(&file, &mut lent) {
+        Ok(loaded) => job(&lent.model(loaded)),
         Err(fault) => Ok(print_fault(rt, &fault)?),
     }
 }
@@ -155,6 +142,7 @@ pub fn with_model<F: FnOnce(&Listed<'_, Facts>) -> anyhow::Result<()>>(
 mod tests {
     use super::*;
     use codec::numbers::NumberFault;
+    use modelfile::faults::FileFault;
     use models::Model;
     use std::test::Fail;
 
@@ -164,7 +152,9 @@ mod tests {
     #[test]
     fn polls_loaded(rt: HostRuntime) -> Result<(), Fail> {
         let mut tables = Tables::new(rt.alloc())?;
-        let model = tables.load(&POLLS).ok().expect(&rt, "a model");
+        let mut lent = tables.lend();
+        let loaded = reading::load(&POLLS, &mut lent).ok().expect(&rt, "a model");
+        let model = lent.model(loaded);
         assert_eq!(rt; model.size(), 5);
         assert_eq!(rt; model.targets, [1, 2, 2, 2, 2, 4].as_slice());
         assert!(rt; model.holds(0, 2) && !model.holds(0, 1));
@@ -178,7 +168,9 @@ mod tests {
     #[test]
     fn number_not_in_fewest_bytes(rt: HostRuntime) -> Result<(), Fail> {
         let mut tables = Tables::new(rt.alloc())?;
-        let fault = tables.load(&[0x80, 0]).err().expect(&rt, "a fault");
+        let fault = reading::load(&[0x80, 0], &mut tables.lend())
+            .err()
+            .expect(&rt, "a fault");
         assert_eq!(rt; fault, FileFault::InNumber(NumberFault::NotFewestAt(0)));
         Ok(())
     }

@@ -107,7 +107,9 @@ fn longest_file(rt: HostRuntime) -> Result<(), Fail> {
     let mut offsets = vec![in heap; 0; 4097]?;
     let mut at = Number(4096).write(&mut file, 0).ok_or("room")?;
     for s in 0..4096 {
-        at = Number(long_label(s, 1 << 21)).write(&mut file, at).ok_or("room")?;
+        at = Number(long_label(s, 1 << 21))
+            .write(&mut file, at)
+            .ok_or("room")?;
     }
     assert_eq!(rt; at, LONGEST - 4096);
     let mut tables = Tables {

@@ -40,7 +40,7 @@ impl Fault for NotTaken {
 
 /// Takes a model file into an analysis, and makes all rounds.
 pub fn settle(file: &[u8], tables: &mut Tables) -> Result<Analysis, TakeFault>
-    ensures { SettleAnswer file.now tables.old tables.new result }
+    ensures { SettleAnswer file.now tables.old result }
 {
     let mut analysis = Analysis::new();
     let opened = take(

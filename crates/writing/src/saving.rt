@@ -50,7 +50,9 @@ fn row_width(targets: &[u16], states: u16, left: usize) -> Result<usize, WriteFa
     if !is_rising(targets, states) {
         return Err(WriteFault::BadRow);
     }
-    Counted(targets).width_within(left).ok_or(WriteFault::NoSpace)
+    Counted(targets)
+        .width_within(left)
+        .ok_or(WriteFault::NoSpace)
 }
 
 // How many bytes the file of the model takes of the space, or why it is refused.

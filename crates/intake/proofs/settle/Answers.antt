@@ -19,9 +19,8 @@ run_settles M a b budget opened some enough goes =
 
 pub returns : goal.returns
 returns c =
-    let t = c.in_ok-opened.ensures in
+    let t = c.in_ok-opened.ensures.answer in
     let r = run_settles (model_of t.labels t.rows) _ _ c.in_ok-opened.opened.states t.stands t.tells.admitted.0.0 (omega (arith, t.tells.states)) c.run.ensures.continues in
-    let held = simp (c.deref_mut.ensures.value, c.deref_mut-2.ensures.value, c.deref_mut-3.ensures.value) at t.held in
     record {
       labels = t.labels;
       rows = t.rows;
@@ -29,9 +28,5 @@ returns c =
       settles = r.1;
       stands = r.2;
       promises = r.3;
-      held = rw (
-        with_items_is c.args.tables.now.labels c.take.new.labels (omega arith),
-        with_items_is c.args.tables.now.offsets c.take.new.offsets (omega arith),
-        with_items_is c.args.tables.now.targets c.take.new.targets (omega arith),
-      ) held;
+      denotes = simp (c.deref_mut.ensures.value, c.deref_mut-2.ensures.value, c.deref_mut-3.ensures.value) at t.held.denotes;
     }

@@ -24,6 +24,7 @@ returns g c =
     let F = (g.M.Model.means c.args.m.now).frame in
     let sized = c.in_ok-n.ensures in
     let long : length c.loop-s.row-items ≡ c.in_ok-n.n = c.loop-s.auto.row-items ∙ length-take-le c.in_ok-n.n (replicate 128 none) (omega arith) in
-    let all : c.loop-s.s ≡ F.size = omega arith in
-    ((sized.1, subst (λ n. (j : ℕ) → j < n → TotalRow F.size (F.row j)) all c.loop-s.invariant.0),
-    linked_front F c.loop-s.row-items c.in_ok-n.n c.loop-s.s long all sized.0 c.loop-s.invariant.1)
+    let all : c.loop-s.s ≡ F.size = omega arith in (
+      (sized.1, subst (λ n. (j : ℕ) → j < n → TotalRow F.size (F.row j)) all c.loop-s.invariant.0),
+      linked_front F c.loop-s.row-items c.in_ok-n.n c.loop-s.s long all sized.0 c.loop-s.invariant.1,
+    )
