@@ -6,7 +6,7 @@ use merger::answers::{OpenRefusal, Opened, Refusal};
 use models::facts::Facts;
 use models::listed::Listed;
 use std::test::Fail;
-use survey::gaps::{Gap, GapNumbers};
+use survey::gaps::{Gap, GapNumbers, Numbers};
 
 #[test]
 fn polls_and_chain_open(rt: HostRuntime) -> Result<(), Fail> {
@@ -73,7 +73,7 @@ fn refusals_in_order(rt: HostRuntime) -> Result<(), Fail> {
             offsets,
             targets: &targets,
         };
-        let told = GapNumbers {
+        let told = Numbers {
             cause,
             place,
             number,

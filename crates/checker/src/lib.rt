@@ -12,7 +12,7 @@ use crate::steps::{Malformed, Refused, Step};
 use crate::truth::truth;
 use models::Model;
 use sets::Set;
-use survey::gaps::Gap;
+use survey::gaps::{Gap, Numbers};
 use survey::rows_of;
 
 mod reading;
@@ -36,17 +36,9 @@ impl From<Malformed> for Refused {
     }
 }
 
-/// The numbers that a refusal is told by: its cause; the state or the step, and the number of a move, each 0 where there is none.
-#[derive(Clone, Copy, Debug, PartialEq, Eq)]
-pub struct Numbers {
-    pub cause: u8,
-    pub place: usize,
-    pub number: u16,
-}
-
 impl Refused {
-    /// The numbers of this refusal.
-    pub fn numbers(self) -> Numbers
+    /// The numbers of this refusal: its place is a state or a step.
+    pub fn numbers(self) -> Numbers<usize>
         ensures { (result.cause ≡ cause self) × ((result.place ≡ place self) × (result.number ≡ move_number self)) }
     {
         let (cause, place, number) = match self {

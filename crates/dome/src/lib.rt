@@ -15,11 +15,15 @@ pub struct Dome {
 impl Label for Dome {
     const WORDS: u8 = 2;
 
-    ghost WORDS = { 2 };
+    ghost count = { 2 };
 
     ghost means = { dome_words };
 
     ghost lawful = { dome_lawful };
+
+    fn word_count() -> u8 {
+        Self::WORDS
+    }
 
     fn holds(&self, a: u8) -> bool {
         match a {

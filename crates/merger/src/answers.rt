@@ -3,7 +3,7 @@ ghost use Rattle.std.specs.Prelude.{◌≡◌};
 ghost use Rattle.merger.specs.declared.answers.OpenRefusal.TheVariants.{Lacks as LacksGap};
 ghost use Rattle.merger.specs.Refusals.{refusal_number, open_cause, open_place, open_move};
 
-use survey::gaps::{Gap, GapNumbers};
+use survey::gaps::{Gap, GapNumbers, Numbers};
 
 /// What an accepted open has found.
 #[derive(Clone, Copy, Debug, PartialEq, Eq)]
@@ -32,7 +32,7 @@ impl OpenRefusal {
     {
         match self {
             OpenRefusal::Lacks(gap) => gap.numbers(),
-            OpenRefusal::ShortScratch => GapNumbers {
+            OpenRefusal::ShortScratch => Numbers {
                 cause: 13,
                 place: 0,
                 number: 0,

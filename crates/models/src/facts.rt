@@ -45,11 +45,15 @@ impl Facts {
 impl Label for Facts {
     const WORDS: u8 = 64;
 
-    ghost WORDS = { 64 };
+    ghost count = { 64 };
 
     ghost means = { fact_words };
 
     ghost lawful = { facts_lawful };
+
+    fn word_count() -> u8 {
+        Self::WORDS
+    }
 
     fn holds(&self, a: u8) -> bool {
         a < Self::WORDS && (self.bits >> a) & 1 == 1

@@ -23,14 +23,18 @@ pub trait Label {
     /// How many words the kind has.
     const WORDS: u8;
 
-    // the same, for clauses
-    ghost WORDS: { ℕ };
+    // the count of words: `WORDS`, for clauses
+    ghost count: { ℕ };
 
     // the words that hold of a label
     ghost means: { Self → Words };
 
     // at most 64 words, and none at or above the count holds of a label
-    ghost lawful: { Lawful WORDS means };
+    ghost lawful: { Lawful count means };
+
+    /// `WORDS`, with the promise that it is the count.
+    fn word_count() -> u8
+        ensures { result ≡ count };
 
     /// Whether word `a` holds of this label.
     fn holds(&self, a: u8) -> bool
@@ -40,14 +44,14 @@ pub trait Label {
     fn same(&self, other: &Self) -> bool
         ensures { TellsSame result (means self.now) (means other.now) }
     {
-        (0..Self::WORDS).all(|a| self.holds(a) == other.holds(a))
+        (0..Self::word_count()).all(|a| self.holds(a) == other.holds(a))
     }
 
     /// The words that hold of this label, as facts: word `a` is bit `a`.
     fn facts(&self) -> Facts
         ensures { SameWords (fact_words result) (means self.now) }
     {
-        Facts::from_fn(Self::WORDS, |a| self.holds(a))
+        Facts::from_fn(Self::word_count(), |a| self.holds(a))
     }
 }
 

@@ -48,7 +48,7 @@ impl<L> Listed<'_, L> {
 impl<L: Label> Listed<'_, L> {
     // The label of `s`, if it is a state: it has the words that the model has at `s`.
     fn label(&self, s: u16) -> Option<&L>
-        ensures { MatchOption result (listed_size self.now.labels.now self.now.offsets.now ≤ s) (λ label. (s < listed_size self.now.labels.now self.now.offsets.now) × SameWords (L.means label.now) ((listed_labels L.WORDS L.means self.now.labels.now).words s)) }
+        ensures { MatchOption result (listed_size self.now.labels.now self.now.offsets.now ≤ s) (λ label. (s < listed_size self.now.labels.now self.now.offsets.now) × SameWords (L.means label.now) ((listed_labels L.count L.means self.now.labels.now).words s)) }
     {
         if s < self.state_count() {
             self.labels.get(s as usize)
@@ -59,16 +59,16 @@ impl<L: Label> Listed<'_, L> {
 }
 
 impl<L: Label> KripkeModel for Listed<'_, L> {
-    ghost means = { λ m. listed L.WORDS L.means m.labels.now m.offsets.now m.targets.now };
+    ghost means = { λ m. listed L.count L.means m.labels.now m.offsets.now m.targets.now };
 
-    ghost formed = { λ m. listed_formed L.WORDS L.means m.labels.now m.offsets.now m.targets.now L.lawful };
+    ghost formed = { λ m. listed_formed L.count L.means m.labels.now m.offsets.now m.targets.now L.lawful };
 
     fn size(&self) -> u16 {
         self.state_count()
     }
 
     fn words(&self) -> u8 {
-        L::WORDS
+        L::word_count()
     }
 
     fn holds(&self, a: u8, s: u16) -> bool {

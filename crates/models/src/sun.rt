@@ -25,11 +25,15 @@ pub struct Sun {
 impl Label for Sun {
     const WORDS: u8 = 6;
 
-    ghost WORDS = { 6 };
+    ghost count = { 6 };
 
     ghost means = { sun_words };
 
     ghost lawful = { sun_lawful };
+
+    fn word_count() -> u8 {
+        Self::WORDS
+    }
 
     fn holds(&self, a: u8) -> bool {
         match a {

@@ -14,13 +14,16 @@ pub enum Gap {
     Nowhere { state: u16, number: u16 },
 }
 
-/// A gap's numbers: its cause, the state that has it and the move in that state's row, each 0 where there is none.
+/// The numbers that a refusal is told by: its cause, its place, and the number of a move, each 0 where there is none.
 #[derive(Clone, Copy, Debug, PartialEq, Eq)]
-pub struct GapNumbers {
+pub struct Numbers<Place> {
     pub cause: u8,
-    pub place: u16,
+    pub place: Place,
     pub number: u16,
 }
+
+/// A gap's numbers: its place is the state that has it, and the move is one of that state's row.
+pub type GapNumbers = Numbers<u16>;
 
 impl Gap {
     /// The numbers that a gap is told by.
@@ -33,7 +36,7 @@ impl Gap {
             Gap::EmptyRow { state } => (15, state, 0),
             Gap::Nowhere { state, number } => (14, state, number),
         };
-        GapNumbers {
+        Numbers {
             cause,
             place,
             number,

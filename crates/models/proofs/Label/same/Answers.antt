@@ -9,7 +9,7 @@ pub returns : goal.returns
 returns g c =
     let v = g.Self.Label.means c.args.self.now in
     let w = g.Self.Label.means c.args.other.now in
-    let n = g.Self.Label.WORDS in
+    let n = g.Self.Label.count in
     let law = g.Self.Label.lawful in
     tells_same n v w _ (law.within _) (law.within _)
     (all_from_yields_List (λ (a : ℕ). beq (v a) (w a)) _ _ _ c.all.ensures.ran (YieldsList-from_range 0 n n (cc) (omega arith)) (λ x b q k. search (rules, tests)))
