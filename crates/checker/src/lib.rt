@@ -12,7 +12,8 @@ use crate::steps::{Malformed, Refused, Step};
 use crate::truth::truth;
 use models::Model;
 use sets::Set;
-use survey::gaps::{Gap, Numbers};
+use survey::gaps;
+use survey::gaps::Gap;
 use survey::rows_of;
 
 mod reading;
@@ -36,9 +37,12 @@ impl From<Malformed> for Refused {
     }
 }
 
+/// A refusal's numbers: its place is a state or a step.
+pub type Numbers = gaps::Numbers<usize>;
+
 impl Refused {
-    /// The numbers of this refusal: its place is a state or a step.
-    pub fn numbers(self) -> Numbers<usize>
+    /// The numbers of this refusal.
+    pub fn numbers(self) -> Numbers
         ensures { (result.cause ≡ cause self) × ((result.place ≡ place self) × (result.number ≡ move_number self)) }
     {
         let (cause, place, number) = match self {
