@@ -2,4 +2,5 @@ pub mod Places
 pub mod Joins
 pub mod Laid
 pub mod Coding
+pub mod Widths
 pub mod Standing

@@ -121,11 +121,7 @@ impl Number {
     pub fn width(self) -> usize
         ensures { result ≡ length (code self.0) }
     {
-        if self.0 < 128 {
-            1
-        } else {
-            Number(self.0 / 128).width() + 1
-        }
+        self.0.checked_ilog2().map_or(1, |log| log as usize / 7 + 1)
     }
 
     /// Writes the number from `at` on, and answers where it ends; writes nothing where it has no room.

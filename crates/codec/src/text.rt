@@ -14,11 +14,7 @@ impl Decimal {
     pub fn width(self) -> usize
         ensures { result ≡ length (decimal self.0) }
     {
-        if self.0 < 10 {
-            1
-        } else {
-            Decimal(self.0 / 10).width() + 1
-        }
+        self.0.checked_ilog10().map_or(1, |log| log as usize + 1)
     }
 }
 
