@@ -109,7 +109,7 @@ impl Set {
     pub fn same(self, other: Set) -> bool
         ensures { Decides result ((j : ℕ) → In self j ↔ In other j) }
     {
-        self.bits == other.bits
+        self == other
     }
 
     /// What is in this set and not in the other.
