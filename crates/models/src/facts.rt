@@ -5,6 +5,7 @@ ghost use Rattle.models.specs.Facts.{fact_words, facts_lawful};
 use crate::Label;
 
 /// Word `a` is bit `a`, and bit 0 is the lowest.
+#[repr(C)]
 #[derive(Clone, Copy, Debug, PartialEq, Eq)]
 pub struct Facts {
     pub bits: u64,
