@@ -14,3 +14,4 @@ pub mod Promising
 pub mod Calling
 pub mod Drawing
 pub mod Making
+pub mod Settling
