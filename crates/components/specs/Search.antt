@@ -2,7 +2,7 @@
 use Rattle.std.specs.Prelude.{◌≡◌, ℕ, ◌+◌, ◌<◌, ◌≤◌, min, List, [], length, replicate, Option, slice_set}
 use Rattle.std.specs.List.{cons_option}
 use Rattle.kripke.specs.Models.{Frame}
-use Rattle.components.specs.Held.{pushed}
+use Rattle.stack.specs.Held.{pushed}
 use Rattle.components.specs.Reach.{Leads}
 use Rattle.components.specs.Walks.{spot, Listed, Inv, Fit, Turned, marked, fresh, lowest_top}
 use Rattle.components.specs.declared.marks.Place.{Place}

@@ -15,7 +15,6 @@ mod marks;
 mod moves;
 mod numbering;
 mod search;
-pub mod stack;
 
 pub use crate::marks::Walk;
 

@@ -7,7 +7,7 @@ ghost use Rattle.components.specs.declared.marks.Place.TheVariants.{Unseen};
 
 use crate::marks::{Place, Walk};
 use crate::moves::inner_move;
-use crate::stack::Stack;
+use stack::Stack;
 use models::Model;
 
 // Where each state stands, how many components are closed, and two stacks: the open states in the order that they were

@@ -1,10 +1,13 @@
 //! A stack over cells that are lent to it.
+#![tactic(auto)]
+
 ghost use Rattle.std.specs.Prelude.{◌≡◌, ◌<◌, ◌≤◌, [], ◌∷◌, length, drop, MatchOption, MatchResult, ◌==◌};
-ghost use Rattle.components.specs.Held.{pushed, replaced};
+ghost use Rattle.stack.specs.Held.{pushed, replaced};
 
 use std::marker::Model;
 
 /// Its entries are in the first cells, the oldest first; the other cells are free.
+// Kept: a count beside lent cells, which a Vec would be in one: the libraries under the merger take no heap.
 #[derive(Drop)]
 pub struct Stack<'a, T> {
     cells: &'a mut [T],
@@ -14,7 +17,7 @@ pub struct Stack<'a, T> {
 // Clauses see the entries, the newest first, and how many find room.
 impl<'a, T> Model for Stack<'a, T> {
     ghost use Rattle.std.specs.Prelude.{◌≤◌, length, reverse, take};
-    ghost use Rattle.components.specs.Held.{Held};
+    ghost use Rattle.stack.specs.Held.{Held};
 
     ghost Value = { Held T };
 
