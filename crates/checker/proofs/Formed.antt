@@ -1,29 +1,14 @@
 -- Steps denote one formula at most, and those that are readable are just those that denote one.
 use Rattle.std.proofs.Common.{◌≡◌, ℕ, zero, suc, ◌+◌, ◌-◌, ◌<◌, ◌≤◌, List, [], ◌∷◌, ◌++◌, length, get_or, take, sym, refl, ap, ◌∙◌, subst, add-one, arith}
-use Rattle.std.proofs.lemmas.List.{append_assoc, append-nil, take_all}
+use Rattle.std.specs.List.{AllByRecursion}
+use Rattle.std.proofs.lemmas.List.{append_assoc, append-nil}
 use Rattle.kripke.specs.Formulas.{Formula, top, word, neg, or, until, globally}
 use Rattle.checker.specs.declared.steps.Step.{Step}
 use Rattle.checker.specs.declared.steps.Step.TheVariants.{True, Word, Not, Or, Until, Globally}
 use Rattle.checker.specs.Steps.{postfix, Denotes, Utters}
-use Rattle.checker.specs.Reading.{Known, Fine, FineBelow, Readable, takes, left_by, operands, step_at}
+use Rattle.checker.specs.Reading.{Known, FineBelow, Readable, takes, left_by, step_at}
 use Rattle.checker.specs.Claims.{OneFormula, ReadableFormulas}
-use Rattle.checker.proofs.Counts.{operands_more, operands-all}
-use Rattle.checker.proofs.Spelling.{made, spelled, spelled_more, put, put_below}
-
--- the operands after a step, the last one first
-after : Step → List Formula → List Formula
-after True fs = top ∷ fs
-after (Word a) fs = word a ∷ fs
-after Not [] = []
-after Not (f ∷ fs) = neg f ∷ fs
-after Or [] = []
-after Or (g ∷ []) = []
-after Or (g ∷ f ∷ fs) = or f g ∷ fs
-after Until [] = []
-after Until (g ∷ []) = []
-after Until (g ∷ f ∷ fs) = until f g ∷ fs
-after Globally [] = []
-after Globally (f ∷ fs) = globally f ∷ fs
+use Rattle.checker.proofs.Spelling.{after, Reads, reads_none, reads_more, denotes_one}
 
 run : List Formula → List Step → List Formula
 run fs [] = fs
@@ -45,7 +30,7 @@ pushes_two ys zs x f g h p r q fs xs =
     ap (run (f ∷ fs)) (append_assoc zs (x ∷ []) xs) ∙ r (f ∷ fs) (x ∷ xs) ∙ ap (λ gs. run gs xs) (q fs)
 
 pushes : (f : Formula) → Pushes (postfix f) f
-unfolding run after
+unfolding run
 pushes top = λ fs xs. refl
 pushes (word a) = λ fs xs. refl
 pushes (neg f) = pushes_one (postfix f) Not f (neg f) (pushes f) (λ fs. refl)
@@ -113,41 +98,37 @@ module _ (count : ℕ) where
       let runs : Runs 0 steps 1 = subst (λ (ys : List Step). Runs 0 ys 1) (append-nil (postfix f) ∙ sym e) (adds f u 0 [] 1 refl) in
       (λ i l. runs-fine 0 steps 1 i l runs, runs-left 0 steps 1 runs)
 
-  utters-made : (x : Step) (f g : Formula) → Known count x → (1 ≤ takes x → Utters count f) → (2 ≤ takes x → Utters count g) → Utters count (made x f g)
-  utters-made True f g known p q = tt
-  utters-made (Word a) f g known p q = known
-  utters-made Not f g known p q = p (omega arith)
-  utters-made Or f g known p q = (p (omega arith), q (omega arith))
-  utters-made Until f g known p q = (p (omega arith), q (omega arith))
-  utters-made Globally f g known p q = p (omega arith)
+  utters-after : (x : Step) (fs : List Formula) → Known count x → AllByRecursion (Utters count) fs → AllByRecursion (Utters count) (after x fs)
+  utters-after True fs known u = (tt, u)
+  utters-after (Word a) fs known u = (known, u)
+  utters-after Not [] known u = tt
+  utters-after Not (f ∷ fs) known u = u
+  utters-after Or [] known u = tt
+  utters-after Or (g ∷ []) known u = tt
+  utters-after Or (g ∷ f ∷ fs) known u = ((u.1.0, u.0), u.1.1)
+  utters-after Until [] known u = tt
+  utters-after Until (g ∷ []) known u = tt
+  utters-after Until (g ∷ f ∷ fs) known u = ((u.1.0, u.0), u.1.1)
+  utters-after Globally [] known u = tt
+  utters-after Globally (f ∷ fs) known u = u
 
   -- the first i steps are those of formulas with words below the count
   abbrev Built : List Step → ℕ → Type 0
-  Built steps i = (fs : ℕ → Formula) × (take i steps ≡ spelled fs (operands steps i)) × ((j : ℕ) → j < operands steps i → Utters count (fs j))
-
-  built-more : (steps : List Step) (i : ℕ) → i < length steps → Fine count steps i → Built steps i → Built steps (i + 1)
-  built-more steps i l fine b =
-      let x = step_at steps i in
-      let fs = b.0 in
-      let base : ℕ = operands steps i - takes x in
-      let f : Formula = made x (fs base) (fs (base + 1)) in
-      let more : base + 1 ≡ operands steps (i + 1) = omega (arith, operands_more steps i l) in
-      let said : Utters count f = utters-made x (fs base) (fs (base + 1)) fine.0 (λ one. b.2 base (omega (arith, fine.1))) (λ two. b.2 (base + 1) (omega (arith, fine.1))) in (
-        put fs base f,
-        spelled_more steps i fs (operands steps i) base l b.1 (omega (arith, fine.1)) ∙ ap (spelled (put fs base f)) more,
-        λ j h. put_below (λ j k. Utters count k) fs base f (λ j h. b.2 j (omega arith)) said j (omega arith),
-      )
+  Built steps i = (fs : List Formula) × Reads steps i fs × AllByRecursion (Utters count) fs
 
   built : (steps : List Step) (i : ℕ) → i ≤ length steps → FineBelow count steps (length steps) → Built steps i
-  built steps zero l fine = (λ _. top, refl, λ j h. absurd (omega arith))
-  built steps (suc i) l fine = subst (λ (n : ℕ). Built steps n) (add-one i) (built-more steps i (omega arith) (fine i (omega arith)) (built steps i (omega arith) fine))
+  built steps zero l fine = ([], reads_none steps, tt)
+  built steps (suc i) l fine =
+      let b = built steps i (omega arith) fine in
+      let x = fine i (omega arith) in
+      subst (λ (n : ℕ). Built steps n) (add-one i) (after (step_at steps i) b.0, reads_more steps i b.0 (omega arith) (omega (arith, b.1.count, x.1)) b.1, utters-after (step_at steps i) b.0 x.0 b.2)
 
   reading-denotes : (steps : List Step) → Readable count steps → (f : Formula) × Denotes steps f × Utters count f
   reading-denotes steps r =
-      let n : ℕ = length steps in
-      let b = built steps n (omega arith) r.1 in
-      let one : operands steps n ≡ 1 = operands-all steps n (omega arith) ∙ r.2 in
-      (b.0 0, sym (take_all n steps (omega arith)) ∙ b.1 ∙ ap (spelled b.0) one, b.2 0 (omega arith))
+      let b = built steps (length steps) (omega arith) r.1 in
+      let one = denotes_one steps (length steps) b.0 (omega arith) r.2 b.1 in
+      let u = subst (λ (fs : List Formula). AllByRecursion (Utters count) fs) one.1 b.2 in
+      (one.0, one.2, u.0)
 
 pub readable_formulas : ReadableFormulas
 readable_formulas count steps counted = (

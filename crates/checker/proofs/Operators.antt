@@ -1,14 +1,11 @@
 -- Truth carried over to other moves and other operands, among the states below n.
 use Rattle.std.proofs.Common.{ℕ, zero, suc, ◌<◌, ◌≤◌, ◌↔◌, inl, inr, ⊎_elim, arith}
 use Rattle.kripke.specs.Words.{Words}
-use Rattle.kripke.specs.Models.{Kripke}
-use Rattle.kripke.specs.Paths.{Until as Ends, Stays, Move}
-use Rattle.kripke.specs.Formulas.{Formula, Holds}
+use Rattle.kripke.specs.Paths.{Until as Ends, Stays}
 use Rattle.checker.specs.declared.steps.Step.{Step}
 use Rattle.checker.specs.declared.steps.Step.TheVariants.{True, Word, Not, Or, Until, Globally}
 use Rattle.checker.specs.Reading.{takes}
 use Rattle.checker.specs.Marks.{TrueAt}
-use Rattle.checker.proofs.Spelling.{made}
 
 -- from a state below n, a move by R is one by R', and goes to a state below n
 abbrev pub Carries : ℕ → (ℕ → ℕ → Type 0) → (ℕ → ℕ → Type 0) → Type 0
@@ -54,12 +51,3 @@ step_over n R R' to from words P P' Q Q' Globally p q s h =
       stays-over n R R' to P P' (λ t l. (e t l).0) n s h,
       stays-over n R' R from P' P (λ t l. (e t l).1) n s h,
     )
-
-pub made_holds : (M : Kripke) (x : Step) (f g : Formula) (s : ℕ) →
-    TrueAt (Move M.frame) M.frame.size M.labels.words x (Holds M f) (Holds M g) s ↔ Holds M (made x f g) s
-made_holds M True f g s = (λ t. t, λ t. t)
-made_holds M (Word a) f g s = (λ t. t, λ t. t)
-made_holds M Not f g s = (λ t. t, λ t. t)
-made_holds M Or f g s = (λ t. t, λ t. t)
-made_holds M Until f g s = (λ t. t, λ t. t)
-made_holds M Globally f g s = (λ t. t, λ t. t)

@@ -1,84 +1,89 @@
 -- Formulas spelled one after the other, and the step that makes one of the last of them.
-use Rattle.std.proofs.Common.{◌≡◌, ℕ, zero, suc, ◌+◌, ◌<◌, ◌≤◌, cond, eqb, List, [], ◌∷◌, ◌++◌, length, take, sym, refl, ap, ◌∙◌, subst, add-one, arith, below_more}
-use Rattle.std.proofs.lemmas.Bool.{eq-eqb, ne_eqb, cond-true, cond-false}
-use Rattle.std.proofs.lemmas.List.{append_assoc, take_more}
+use Rattle.std.proofs.Common.{◌≡◌, ℕ, ◌+◌, ◌-◌, ◌<◌, ◌≤◌, List, [], ◌∷◌, ◌++◌, length, take, sym, refl, ap, ◌∙◌, arith}
+use Rattle.std.proofs.lemmas.List.{append_assoc, take_more, take_all}
 use Rattle.kripke.specs.Formulas.{Formula, top, word, neg, or, until, globally}
 use Rattle.checker.specs.declared.steps.Step.{Step}
 use Rattle.checker.specs.declared.steps.Step.TheVariants.{True, Word, Not, Or, Until, Globally}
-use Rattle.checker.specs.Steps.{postfix}
-use Rattle.checker.specs.Reading.{takes, step_at}
+use Rattle.checker.specs.Steps.{postfix, Denotes}
+use Rattle.checker.specs.Reading.{takes, step_at, left_by, operands}
+use Rattle.checker.proofs.Counts.{operands_more, operands-all}
 
--- the formula that a step makes of its operands, of which it leaves out those that it does not take
-abbrev pub made : Step → Formula → Formula → Formula
-made True f g = top
-made (Word a) f g = word a
-made Not f g = neg f
-made Or f g = or f g
-made Until f g = until f g
-made Globally f g = globally f
+-- the operands after a step, the last one first
+abbrev pub after : Step → List Formula → List Formula
+after True fs = top ∷ fs
+after (Word a) fs = word a ∷ fs
+after Not [] = []
+after Not (f ∷ fs) = neg f ∷ fs
+after Or [] = []
+after Or (g ∷ []) = []
+after Or (g ∷ f ∷ fs) = or f g ∷ fs
+after Until [] = []
+after Until (g ∷ []) = []
+after Until (g ∷ f ∷ fs) = until f g ∷ fs
+after Globally [] = []
+after Globally (f ∷ fs) = globally f ∷ fs
 
--- the steps of the first n of some formulas
-abbrev pub spelled : (ℕ → Formula) → ℕ → List Step
-spelled fs zero = []
-spelled fs (suc n) = spelled fs n ++ postfix (fs n)
+after_length : (x : Step) (fs : List Formula) → takes x ≤ length fs → length (after x fs) ≡ length fs - takes x + 1
+after_length True fs h = omega arith
+after_length (Word a) fs h = omega arith
+after_length Not [] h = absurd (omega arith)
+after_length Not (f ∷ fs) h = omega arith
+after_length Or [] h = absurd (omega arith)
+after_length Or (g ∷ []) h = absurd (omega arith)
+after_length Or (g ∷ f ∷ fs) h = omega arith
+after_length Until [] h = absurd (omega arith)
+after_length Until (g ∷ []) h = absurd (omega arith)
+after_length Until (g ∷ f ∷ fs) h = omega arith
+after_length Globally [] h = absurd (omega arith)
+after_length Globally (f ∷ fs) h = omega arith
 
--- the formulas with f in place n
-pub put : (ℕ → Formula) → ℕ → Formula → ℕ → Formula
-put fs n f j = cond (eqb j n) f (fs j)
+-- the steps of some formulas, the last one first
+abbrev pub spelled : List Formula → List Step
+spelled [] = []
+spelled (f ∷ fs) = spelled fs ++ postfix f
 
-put_here : (fs : ℕ → Formula) (n : ℕ) (f : Formula) → put fs n f n ≡ f
-unfolding put
-put_here fs n f = cond-true (eqb n n) f (fs n) (eq-eqb n n refl)
+spells_two : (fs : List Formula) (f g : Formula) (x : Step) → spelled (g ∷ f ∷ fs) ++ (x ∷ []) ≡ spelled fs ++ (postfix f ++ (postfix g ++ (x ∷ [])))
+spells_two fs f g x = append_assoc (spelled fs ++ postfix f) (postfix g) (x ∷ []) ∙ append_assoc (spelled fs) (postfix f) (postfix g ++ (x ∷ []))
 
-put_other : (fs : ℕ → Formula) (n : ℕ) (f : Formula) (j : ℕ) → (j ≡ n → ⊥) → put fs n f j ≡ fs j
-unfolding put
-put_other fs n f j ne = cond-false (eqb j n) f (fs j) (ne_eqb j n ne)
+-- a step after its operands spells what they are after it
+spells : (x : Step) (fs : List Formula) → takes x ≤ length fs → spelled fs ++ (x ∷ []) ≡ spelled (after x fs)
+spells True fs h = refl
+spells (Word a) fs h = refl
+spells Not [] h = absurd (omega arith)
+spells Not (f ∷ fs) h = append_assoc (spelled fs) (postfix f) (Not ∷ [])
+spells Or [] h = absurd (omega arith)
+spells Or (g ∷ []) h = absurd (omega arith)
+spells Or (g ∷ f ∷ fs) h = spells_two fs f g Or
+spells Until [] h = absurd (omega arith)
+spells Until (g ∷ []) h = absurd (omega arith)
+spells Until (g ∷ f ∷ fs) h = spells_two fs f g Until
+spells Globally [] h = absurd (omega arith)
+spells Globally (f ∷ fs) h = append_assoc (spelled fs) (postfix f) (Globally ∷ [])
 
--- what holds of the formulas below n and of f holds of those up to n
-pub put_below : (P : ℕ → Formula → Type 0) (fs : ℕ → Formula) (n : ℕ) (f : Formula) → ((j : ℕ) → j < n → P j (fs j)) → P n f → (j : ℕ) → j < n + 1 → P j (put fs n f j)
-put_below P fs n f below here =
-    below_more (λ j. P j (put fs n f j)) n
-    (λ j l. subst (λ (k : Formula). P j k) (sym (put_other fs n f j (λ e. omega arith))) (below j l))
-    (subst (λ (k : Formula). P n k) (sym (put_here fs n f)) here)
+-- the first i steps are those of the formulas, which are as many as they leave
+pub record Reads (steps : List Step) (i : ℕ) (fs : List Formula) : Type 0 where
+  pub spelling : take i steps ≡ spelled fs
+  pub count : length fs ≡ operands steps i
+  pub few : length fs ≤ i
 
-spelled_put : (fs : ℕ → Formula) (n : ℕ) (f : Formula) (k : ℕ) → k ≤ n → spelled (put fs n f) k ≡ spelled fs k
-spelled_put fs n f zero h = refl
-spelled_put fs n f (suc k) h =
-    let e = spelled_put fs n f k (omega arith) in
-    let q = put_other fs n f k (λ e. omega arith) in
-    cc
+pub reads_none : (steps : List Step) → Reads steps 0 []
+reads_none steps = record { spelling = refl; count = refl; few = omega arith }
 
--- the last one or two operands and a step that takes them
-spells_one : (fs : ℕ → Formula) (base : ℕ) (x : Step) → spelled fs (base + 1) ++ (x ∷ []) ≡ spelled fs base ++ (postfix (fs base) ++ (x ∷ []))
-spells_one fs base x = ap (λ n. spelled fs n ++ (x ∷ [])) (add-one base) ∙ append_assoc (spelled fs base) (postfix (fs base)) (x ∷ [])
-
-spells_two : (fs : ℕ → Formula) (base : ℕ) (x : Step) →
-    spelled fs (base + 2) ++ (x ∷ []) ≡ spelled fs base ++ (postfix (fs base) ++ (postfix (fs (base + 1)) ++ (x ∷ [])))
-spells_two fs base x =
-    let two : base + 2 ≡ base + 1 + 1 = omega arith in
-    ap (λ n. spelled fs n ++ (x ∷ [])) two ∙ spells_one fs (base + 1) x ∙
-    ap (λ n. spelled fs n ++ (postfix (fs (base + 1)) ++ (x ∷ []))) (add-one base) ∙
-    append_assoc (spelled fs base) (postfix (fs base)) (postfix (fs (base + 1)) ++ (x ∷ []))
-
--- a step after its operands spells the formula that it makes of them
-spells : (fs : ℕ → Formula) (base : ℕ) (x : Step) → spelled fs (base + takes x) ++ (x ∷ []) ≡ spelled fs base ++ postfix (made x (fs base) (fs (base + 1)))
-spells fs base True = let here : base + 0 ≡ base = omega arith in ap (λ n. spelled fs n ++ (True ∷ [])) here
-spells fs base (Word a) = let here : base + 0 ≡ base = omega arith in ap (λ n. spelled fs n ++ (Word a ∷ [])) here
-spells fs base Not = spells_one fs base Not
-spells fs base Or = spells_two fs base Or
-spells fs base Until = spells_two fs base Until
-spells fs base Globally = spells_one fs base Globally
-
--- one step more: its operands, from base on, make way for the formula that it makes of them
-pub spelled_more : (steps : List Step) (i : ℕ) (fs : ℕ → Formula) (height base : ℕ) → i < length steps → take i steps ≡ spelled fs height →
-    base + takes (step_at steps i) ≡ height →
-    take (i + 1) steps ≡ spelled (put fs base (made (step_at steps i) (fs base) (fs (base + 1)))) (base + 1)
-spelled_more steps i fs height base h read w =
+-- one step more
+pub reads_more : (steps : List Step) (i : ℕ) (fs : List Formula) → i < length steps → takes (step_at steps i) ≤ length fs → Reads steps i fs →
+    Reads steps (i + 1) (after (step_at steps i) fs)
+reads_more steps i fs l h r =
     let x = step_at steps i in
-    let f : Formula = made x (fs base) (fs (base + 1)) in
-    let a = take_more steps i True h in
-    let b = spelled_put fs base f base (omega arith) in
-    let c = put_here fs base f in
-    let d : spelled (put fs base f) (base + 1) ≡ spelled (put fs base f) base ++ postfix (put fs base f base) = ap (spelled (put fs base f)) (add-one base) in
-    let e : spelled fs height ++ (x ∷ []) ≡ spelled fs base ++ postfix f = ap (λ k. spelled fs k ++ (x ∷ [])) (sym w) ∙ spells fs base x in
-    cc
+    let left = after_length x fs h in
+    record {
+      spelling = take_more steps i True l ∙ ap (λ (ys : List Step). ys ++ (x ∷ [])) r.spelling ∙ spells x fs h;
+      count = omega (arith, left, operands_more steps i l, r.count);
+      few = omega (arith, left, r.few);
+    }
+
+-- one operand left: the steps denote it
+pub denotes_one : (steps : List Step) (i : ℕ) (fs : List Formula) → length steps ≤ i → left_by 0 steps ≡ 1 → Reads steps i fs →
+    (f : Formula) × (fs ≡ f ∷ []) × Denotes steps f
+denotes_one steps i [] l one r = absurd (omega (arith, one, r.count, operands-all steps i l))
+denotes_one steps i (f ∷ []) l one r = (f, refl, sym (take_all i steps l) ∙ r.spelling)
+denotes_one steps i (g ∷ f ∷ fs) l one r = absurd (omega (arith, one, r.count, operands-all steps i l))

@@ -1,8 +1,7 @@
 -- One turn of each loop over a table of moves.
-use Rattle.std.proofs.Common.{◌≡◌, ℕ, zero, suc, ◌+◌, ◌-◌, ◌<◌, ◌≤◌, ◌⊎◌, ◌↔◌, List, get_or, sym, subst, inl, inr, ⊎_elim, add-one, arith}
-use Rattle.std.proofs.lemmas.Bool.{cases_eq}
+use Rattle.std.proofs.Common.{◌≡◌, ℕ, zero, suc, ◌+◌, ◌-◌, ◌<◌, ◌≤◌, ◌↔◌, List, sym, subst, add-one, arith}
 use Rattle.sets.specs.declared.Set.{Set}
-use Rattle.sets.specs.Sets.{In, none}
+use Rattle.sets.specs.Sets.{In}
 use Rattle.kripke.specs.Paths.{Until, Stays}
 use Rattle.checker.specs.Tables.{Goes, Closed, Feeds}
 

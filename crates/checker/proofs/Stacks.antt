@@ -1,88 +1,108 @@
 -- The stack of operands, and one step more.
-use Rattle.std.proofs.Common.{◌≡◌, ℕ, ◌+◌, ◌-◌, ◌<◌, ◌≤◌, ◌↔◌, List, length, get_or, take, drop, set, sym, refl, ap, ◌∙◌, subst, arith}
-use Rattle.std.proofs.lemmas.List.{take_all, length-set, get_or-set_same, get_or-set_other, get_or-take, get_or-drop}
+use Rattle.std.proofs.Common.{◌≡◌, ℕ, ◌+◌, ◌-◌, ◌<◌, ◌≤◌, ◌↔◌, List, [], ◌∷◌, length, get_or, take, drop, sym, refl, ◌∙◌, subst, arith}
+use Rattle.stack.specs.Held.{Held}
 use Rattle.sets.specs.declared.Set.{Set}
 use Rattle.sets.specs.Sets.{In, none}
 use Rattle.kripke.specs.Models.{Kripke}
 use Rattle.kripke.specs.Paths.{Move}
-use Rattle.kripke.specs.Formulas.{Formula, Holds}
+use Rattle.kripke.specs.Formulas.{Formula, Holds, top}
 use Rattle.survey.specs.Gaps.{Linked}
 use Rattle.checker.specs.declared.steps.Step.{Step}
+use Rattle.checker.specs.declared.steps.Step.TheVariants.{True, Word, Not, Or, Until, Globally}
 use Rattle.checker.specs.Steps.{Denotes}
-use Rattle.checker.specs.Reading.{takes, step_at, operands}
+use Rattle.checker.specs.Reading.{takes, left_by, step_at}
 use Rattle.checker.specs.Tables.{Goes}
 use Rattle.checker.specs.Marks.{SetIs, TrueAt}
-use Rattle.checker.proofs.Counts.{operands_more}
-use Rattle.checker.proofs.Operators.{made_holds, step_over}
-use Rattle.checker.proofs.Spelling.{made, spelled, spelled_more, put, put_below}
+use Rattle.checker.proofs.Counts.{operands-all}
+use Rattle.checker.proofs.Operators.{step_over}
+use Rattle.checker.proofs.Spelling.{after, Reads, reads_none, reads_more, denotes_one}
+
+-- the sets are those of the formulas, one for each
+abbrev pub SetsAre : Kripke → List Formula → List Set → Type 0
+SetsAre M [] [] = Unit {0}
+SetsAre M [] (x ∷ xs) = ⊥
+SetsAre M (f ∷ fs) [] = ⊥
+SetsAre M (f ∷ fs) (x ∷ xs) = SetIs M f x × SetsAre M fs xs
+
+as_many : (M : Kripke) (fs : List Formula) (xs : List Set) → SetsAre M fs xs → length fs ≡ length xs
+as_many M [] [] is = refl
+as_many M [] (x ∷ xs) is = absurd is
+as_many M (f ∷ fs) [] is = absurd is
+as_many M (f ∷ fs) (x ∷ xs) is = omega (arith, as_many M fs xs is.1)
 
 -- after the first i steps, the operands are the sets of formulas whose steps these are
-pub record Stacked (M : Kripke) (steps : List Step) (i height : ℕ) (stack : List Set) : Type 0 where
-  pub fs : ℕ → Formula
-  pub read : take i steps ≡ spelled fs height
-  pub count : height ≡ operands steps i
-  pub few : height ≤ i
-  pub room : length stack ≡ 64
-  pub sets : (j : ℕ) → j < height → SetIs M (fs j) (get_or stack j none)
+pub record Stacked (M : Kripke) (steps : List Step) (i : ℕ) (operands : Held Set) : Type 0 where
+  pub fs : List Formula
+  pub reads : Reads steps i fs
+  pub sets : SetsAre M fs operands.held
+  pub room : operands.room ≡ 64
 
-pub none_stacked : (M : Kripke) (steps : List Step) (stack : List Set) (f : Formula) → length stack ≡ 64 → Stacked M steps 0 0 stack
-none_stacked M steps stack f room = record {
-  fs = λ _. f;
-  read = refl;
-  count = refl;
-  few = omega arith;
-  room = room;
-  sets = λ j h. absurd (omega arith);
-}
+pub stands : (M : Kripke) (steps : List Step) (i : ℕ) (operands : Held Set) → Stacked M steps i operands →
+    (length operands.held ≡ left_by 0 (take i steps)) × (length operands.held ≤ i)
+stands M steps i operands st =
+    let e = as_many M st.fs operands.held st.sets in
+    (sym e ∙ st.reads.count, omega (arith, e, st.reads.few))
 
--- n is the number of states as the code has it
-module _ (M : Kripke) (rows : List Set) (linked : Linked M.frame rows) (n : ℕ) (sized : n ≡ M.frame.size) where
-  -- what a step makes of the sets of its operands is the set of its formula
-  step_is : (x : Step) (f g : Formula) (xs : List Set) (v : Set) →
-      (1 ≤ takes x → SetIs M f (get_or xs 0 none)) → (2 ≤ takes x → SetIs M g (get_or xs 1 none)) →
-      ((s : ℕ) → s < n → In v s ↔ TrueAt (Goes rows) n M.labels.words x (In (get_or xs 0 none)) (In (get_or xs 1 none)) s) →
-      SetIs M (made x f g) v
-  step_is x f g xs v is is' got s h =
-      let Said : ℕ → Type 0 = λ k. In v s ↔ TrueAt (Goes rows) k M.labels.words x (In (get_or xs 0 none)) (In (get_or xs 1 none)) s in
-      let told : Said M.frame.size = subst Said sized (got s (omega arith)) in
-      let carried = step_over M.frame.size (Goes rows) (Move M.frame)
+pub none_stacked : (M : Kripke) (steps : List Step) → Stacked M steps 0 (record { held = []; room = 64 })
+none_stacked M steps = record { fs = []; reads = reads_none steps; sets = tt; room = refl }
+
+module _ (M : Kripke) (rows : List Set) (linked : Linked M.frame rows) where
+  -- the set has the states where a step is true of the sets of its operands
+  abbrev Made : Step → (x y v : Set) → Type 0
+  Made step x y v = (s : ℕ) → s < M.frame.size → In v s ↔ TrueAt (Goes rows) M.frame.size M.labels.words step (In x) (In y) s
+
+  -- it has those where the step is true of their formulas
+  made-is : (step : Step) (f g : Formula) (x y v : Set) → (1 ≤ takes step → SetIs M f x) → (2 ≤ takes step → SetIs M g y) → Made step x y v →
+      (s : ℕ) → s < M.frame.size → In v s ↔ TrueAt (Move M.frame) M.frame.size M.labels.words step (Holds M f) (Holds M g) s
+  made-is step f g x y v p q made s h =
+      let over = step_over M.frame.size (Goes rows) (Move M.frame)
       (λ a b l p. let v = (linked.states a l b).0 p in (v.2, v)) (λ a b l p. (p.2, (linked.states a l b).1 p))
-      M.labels.words (In (get_or xs 0 none)) (Holds M f) (In (get_or xs 1 none)) (Holds M g) x is is' s h in
-      let so = made_holds M x f g s in
-      (λ i. so.0 (carried.0 (told.0 i)), λ p. told.1 (carried.1 (so.1 p)))
+      M.labels.words (In x) (Holds M f) (In y) (Holds M g) step p q s h in
+      (λ i. over.0 ((made s h).0 i), λ i. (made s h).1 (over.1 i))
 
-  module _ (steps : List Step) (i height : ℕ) (stack : List Set) (st : Stacked M steps i height stack) (h : i < length steps) (short : length steps ≤ 64) where
-    -- the operands from base on make way for the one that the step leaves
-    pub stacked_more : (base : ℕ) (v : Set) → base + takes (step_at steps i) ≡ height →
-        ((s : ℕ) → s < n → In v s ↔ TrueAt (Goes rows) n M.labels.words (step_at steps i)
-        (In (get_or (take (height - base) (drop base stack)) 0 none)) (In (get_or (take (height - base) (drop base stack)) 1 none)) s) →
-        Stacked M steps (i + 1) (base + 1) (set stack base v)
-    stacked_more base v w got =
-        let x = step_at steps i in
-        let xs : List Set = take (height - base) (drop base stack) in
-        let f : Formula = made x (st.fs base) (st.fs (base + 1)) in
-        let operand : (k : ℕ) → k < height - base → SetIs M (st.fs (base + k)) (get_or xs k none) = λ k l.
-        subst (λ (y : Set). SetIs M (st.fs (base + k)) y)
-        (sym (get_or-take (height - base) (drop base stack) k none l ∙ get_or-drop base stack k none)) (st.sets (base + k) (omega arith)) in
-        let here : base + 0 ≡ base = omega arith in
-        let is : SetIs M f v = step_is x (st.fs base) (st.fs (base + 1)) xs v
-        (λ l. subst (λ (k : ℕ). SetIs M (st.fs k) (get_or xs 0 none)) here (operand 0 (omega arith))) (λ l. operand 1 (omega arith)) got in
-        record {
-          fs = put st.fs base f;
-          read = spelled_more steps i st.fs height base h st.read w;
-          count = omega (arith, operands_more steps i h, st.count);
-          few = omega (arith, st.few);
-          room = length-set stack base v ∙ st.room;
-          sets = put_below (λ j k. SetIs M k (get_or (set stack base v) j none)) st.fs base f
-              (λ j l. subst (λ (y : Set). SetIs M (st.fs j) y) (sym (get_or-set_other stack base j v none (λ e. omega arith))) (st.sets j (omega arith)))
-              (subst (λ (y : Set). SetIs M f y) (sym (get_or-set_same stack base v none (omega (arith, st.room, st.few)))) is);
-        }
+  sets-after : (step : Step) (fs : List Formula) (xs : List Set) (v : Set) → takes step ≤ length fs → SetsAre M fs xs →
+      Made step (get_or xs (takes step - 1) none) (get_or xs 0 none) v → SetsAre M (after step fs) (v ∷ drop (takes step) xs)
+  sets-after True fs xs v h is made = (made-is True top top none none v (λ n. absurd (omega arith)) (λ n. absurd (omega arith)) made, is)
+  sets-after (Word a) fs xs v h is made = (made-is (Word a) top top none none v (λ n. absurd (omega arith)) (λ n. absurd (omega arith)) made, is)
+  sets-after Not [] xs v h is made = absurd (omega arith)
+  sets-after Not (f ∷ fs) [] v h is made = absurd is
+  sets-after Not (f ∷ fs) (x ∷ xs) v h is made = (made-is Not f f x x v (λ _. is.0) (λ _. is.0) made, is.1)
+  sets-after Or [] xs v h is made = absurd (omega arith)
+  sets-after Or (g ∷ []) xs v h is made = absurd (omega arith)
+  sets-after Or (g ∷ f ∷ fs) [] v h is made = absurd is
+  sets-after Or (g ∷ f ∷ fs) (y ∷ []) v h is made = absurd is.1
+  sets-after Or (g ∷ f ∷ fs) (y ∷ x ∷ xs) v h is made = (made-is Or f g x y v (λ _. is.1.0) (λ _. is.0) made, is.1.1)
+  sets-after Until [] xs v h is made = absurd (omega arith)
+  sets-after Until (g ∷ []) xs v h is made = absurd (omega arith)
+  sets-after Until (g ∷ f ∷ fs) [] v h is made = absurd is
+  sets-after Until (g ∷ f ∷ fs) (y ∷ []) v h is made = absurd is.1
+  sets-after Until (g ∷ f ∷ fs) (y ∷ x ∷ xs) v h is made = (made-is Until f g x y v (λ _. is.1.0) (λ _. is.0) made, is.1.1)
+  sets-after Globally [] xs v h is made = absurd (omega arith)
+  sets-after Globally (f ∷ fs) [] v h is made = absurd is
+  sets-after Globally (f ∷ fs) (x ∷ xs) v h is made = (made-is Globally f f x x v (λ _. is.0) (λ _. is.0) made, is.1)
 
--- one operand left: the steps denote its formula
-pub whole : (M : Kripke) (steps : List Step) (i height : ℕ) (stack : List Set) → Stacked M steps i height stack → length steps ≤ i → height ≡ 1 →
-    (f : Formula) × Denotes steps f × SetIs M f (get_or stack 0 none)
-whole M steps i height stack st h e = (
-  st.fs 0,
-  sym (take_all i steps h) ∙ st.read ∙ ap (spelled st.fs) e,
-  st.sets 0 (omega arith),
-)
+  -- the operands of a step make way for the one that it leaves
+  pub stacked_more : (steps : List Step) (i : ℕ) (operands operands' : Held Set) (v : Set) → i < length steps → takes (step_at steps i) ≤ length operands.held →
+      Stacked M steps i operands → Made (step_at steps i) (get_or operands.held (takes (step_at steps i) - 1) none) (get_or operands.held 0 none) v →
+      operands' ≡ record operands { held = v ∷ drop (takes (step_at steps i)) operands.held } → Stacked M steps (i + 1) operands'
+  stacked_more steps i operands operands' v l h st made e =
+      let enough : takes (step_at steps i) ≤ length st.fs = omega (arith, h, as_many M st.fs operands.held st.sets) in
+      subst (λ (x : Held Set). Stacked M steps (i + 1) x) (sym e) (record {
+        fs = after (step_at steps i) st.fs;
+        reads = reads_more steps i st.fs l enough st.reads;
+        sets = sets-after (step_at steps i) st.fs operands.held v enough st.sets made;
+        room = st.room;
+      })
+
+-- all steps leave one operand
+pub one_left : (M : Kripke) (steps : List Step) (i : ℕ) (operands : Held Set) → Stacked M steps i operands → length steps ≤ i → left_by 0 steps ≡ 1 →
+    length operands.held ≡ 1
+one_left M steps i operands st l one = (stands M steps i operands st).0 ∙ operands-all steps i l ∙ one
+
+-- it is the set of the formula that they denote
+pub whole : (M : Kripke) (steps : List Step) (i : ℕ) (operands : Held Set) → Stacked M steps i operands → length steps ≤ i → left_by 0 steps ≡ 1 →
+    (x : Set) (xs : List Set) → operands.held ≡ x ∷ xs → (f : Formula) × Denotes steps f × SetIs M f x
+whole M steps i operands st l one x xs e =
+    let d = denotes_one steps i st.fs l one st.reads in
+    let is = subst (λ (ys : List Set). SetsAre M (d.0 ∷ []) ys) e (subst (λ (fs : List Formula). SetsAre M fs operands.held) d.1 st.sets) in
+    (d.0, d.2, is.0)

@@ -12,9 +12,8 @@ use crate::steps::{Malformed, Refused, Step};
 use crate::truth::truth;
 use models::Model;
 use sets::Set;
-use survey::gaps;
 use survey::gaps::Gap;
-use survey::rows_of;
+use survey::{gaps, rows_of};
 
 mod reading;
 mod spread;

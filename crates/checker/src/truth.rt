@@ -1,5 +1,5 @@
 //! Where a formula holds, as a set of states.
-ghost use Rattle.std.specs.Prelude.{◌≡◌, ℕ, ◌<◌, ◌≤◌, ◌↔◌, length, slice_index_or};
+ghost use Rattle.std.specs.Prelude.{◌≡◌, ℕ, ◌-◌, ◌<◌, ◌≤◌, ◌↔◌, length, drop, slice_index_or};
 ghost use Rattle.sets.specs.Sets.{In, none};
 ghost use Rattle.kripke.specs.Formulas.{Formula, word};
 ghost use Rattle.survey.specs.Gaps.{Sized, Linked};
@@ -8,11 +8,12 @@ ghost use Rattle.checker.specs.Reading.{Readable, takes};
 ghost use Rattle.checker.specs.Tables.{Goes, Closed};
 ghost use Rattle.checker.specs.Marks.{SetIs, TrueAt};
 
-use crate::reading::{MOST_STEPS, arity};
+use crate::reading::MOST_STEPS;
 use crate::spread::{globally, until};
 use crate::steps::Step;
 use models::Model;
 use sets::Set;
+use stack::Stack;
 use survey::Rows;
 
 // The states where word `a` holds.
@@ -23,38 +24,44 @@ fn labelled<M: Model>(model: &M, a: u8) -> Set
     Set::from_fn(model.size() as usize, |s| model.holds(a, s as u16))
 }
 
-// Where a step is true, of the sets where its operands are.
-fn apply<M: Model>(model: &M, rows: &Rows, n: usize, step: Step, operands: &[Set]) -> Set
+// Where a step is true, of the sets where its operands are, which it takes off the stack.
+fn apply<M: Model>(model: &M, rows: &Rows, step: Step, operands: &mut Stack<'_, Set>) -> Set
     requires sized { Sized (M.Model.means model.now).frame }
-    requires count { n ≡ (M.Model.means model.now).frame.size }
-    requires closed { Closed n rows.now }
-    requires given { takes step ≤ length operands.now }
-    ensures { (s : ℕ) → s < n → In result s ↔ TrueAt (Goes rows.now) n (M.Model.means model.now).labels.words step (In (slice_index_or operands.now 0 none)) (In (slice_index_or operands.now 1 none)) s }
+    requires closed { Closed (M.Model.means model.now).frame.size rows.now }
+    requires given { takes step ≤ length operands.old.held }
+    ensures made { let F = (M.Model.means model.now).frame in (s : ℕ) → s < F.size → In result s ↔ TrueAt (Goes rows.now) F.size (M.Model.means model.now).labels.words step (In (slice_index_or operands.old.held (takes step - 1) none)) (In (slice_index_or operands.old.held 0 none)) s }
+    ensures taken { operands.new ≡ record operands.old { held = drop (takes step) operands.old.held } }
 {
+    let n = model.size() as usize;
     match step {
         Step::True => Set::all(),
         Step::Word(a) => labelled(model, a),
-        Step::Not => operands[0].others(),
-        Step::Or => operands[0].or(operands[1]),
-        Step::Until => until(rows, n, operands[0], operands[1]),
-        Step::Globally => globally(rows, n, operands[0]),
+        Step::Not => operands.pop().unwrap().others(),
+        Step::Or => {
+            let g = operands.pop().unwrap();
+            operands.pop().unwrap().or(g)
+        }
+        Step::Until => {
+            let g = operands.pop().unwrap();
+            let f = operands.pop().unwrap();
+            until(rows, n, f, g)
+        }
+        Step::Globally => globally(rows, n, operands.pop().unwrap()),
     }
 }
 
-// The states where the formula holds that the steps denote. The sets of the operands stand on a stack.
+// The states where the formula holds that the steps denote.
 pub(crate) fn truth<M: Model>(model: &M, rows: &Rows, steps: &[Step]) -> Set
     requires sized { Sized (M.Model.means model.now).frame }
     requires linked { Linked (M.Model.means model.now).frame rows.now }
     requires readable { Readable (M.Model.means model.now).labels.count steps.now }
     ensures { (f : Formula) × Denotes steps.now f × SetIs (M.Model.means model.now) f result }
 {
-    let n = model.size() as usize;
-    let mut stack = [Set::NONE; MOST_STEPS];
-    let mut top = 0;
+    let mut cells = [Set::NONE; MOST_STEPS];
+    let mut operands = Stack::new(&mut cells);
     for step in steps {
-        let base = top - arity(*step);
-        stack[base] = apply(model, rows, n, *step, &stack[base..top]);
-        top = base + 1;
+        let made = apply(model, rows, *step, &mut operands);
+        operands.push(made).unwrap();
     }
-    stack[0]
+    operands.pop().unwrap()
 }

@@ -1,5 +1,4 @@
-use Rattle.std.proofs.Common.{rules, true, false, refl, ⊎_elim, arith}
-use Rattle.std.proofs.lemmas.Bool.{both_ways}
+use Rattle.std.proofs.Common.{rules, ⊎_elim, arith}
 use Rattle.sets.proofs.Bits.{in_dec}
 use Rattle.checker.proofs.spread.before.Goals as goal
 

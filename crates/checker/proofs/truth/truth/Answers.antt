@@ -1,21 +1,33 @@
-use Rattle.std.proofs.Common.{◌-◌, refl, ◌∙◌, arith}
-use Rattle.kripke.specs.Formulas.{top}
-use Rattle.checker.proofs.Stacks.{none_stacked, stacked_more, whole}
-use Rattle.checker.proofs.Counts.{operands-all}
+use Rattle.std.proofs.Common.{rules, arith}
+use Rattle.std.proofs.lemmas.List.{length-drop}
+use Rattle.checker.specs.Reading.{takes, step_at}
+use Rattle.checker.proofs.Stacks.{stands, stacked_more, one_left, whole}
 use Rattle.checker.proofs.truth.truth.Goals as goal
 
-pub loop-step-init : goal.loop-step-init
-loop-step-init g c = none_stacked (g.M.Model.means c.args.model.now) c.args.steps.now _ top refl
+pub apply-made-requires-clause-given : goal.apply-made-requires-clause-given
+apply-made-requires-clause-given g c =
+    let fine = c.requires.readable.1 c.loop-step.step-index (omega arith) in
+    omega (arith, fine.1, (stands _ _ _ _ c.loop-step.invariant).0)
+
+pub unwrap-requires : goal.unwrap-requires
+unwrap-requires g c =
+    let few = stands _ _ _ _ c.loop-step.invariant in
+    let short = c.requires.readable.0.1 in
+    let room = c.loop-step.invariant.room in
+    let left = length-drop (takes (step_at c.args.steps.now c.loop-step.step-index)) c.loop-step.operands.held in
+    search (rules, arith, few, short, room, left)
 
 pub loop-step-preserved : goal.loop-step-preserved
 loop-step-preserved g c =
-    let taken = c.arity.ensures in
-    let fine = (c.requires.readable.1 c.loop-step.step-index (omega arith)).1 in
-    stacked_more (g.M.Model.means c.args.model.now) c.args.rows.now c.requires.linked c.size-n.result c.size-n.ensures
-    c.args.steps.now c.loop-step.step-index c.loop-step.top c.loop-step.stack c.loop-step.invariant (omega arith) c.requires.readable.0.1
-    (c.loop-step.top - c.arity.result) c.apply.result (omega (arith, c.loop-step.invariant.count)) c.apply.ensures
+    let fine = c.requires.readable.1 c.loop-step.step-index (omega arith) in
+    stacked_more _ _ c.requires.linked _ _ _ _ _ (omega arith) (omega (arith, fine.1, (stands _ _ _ _ c.loop-step.invariant).0)) c.loop-step.invariant c.apply-made.ensures.made (search rules)
+
+pub unwrap-requires-2 : goal.unwrap-requires-2
+unwrap-requires-2 g c =
+    let one = one_left _ _ _ _ c.loop-step.invariant (omega arith) c.requires.readable.2 in
+    search (rules, arith, one)
 
 pub returns : goal.returns
 returns g c =
-    whole (g.M.Model.means c.args.model.now) c.args.steps.now c.loop-step.step-index c.loop-step.top c.loop-step.stack c.loop-step.invariant (omega arith)
-    (c.loop-step.invariant.count ∙ operands-all c.args.steps.now c.loop-step.step-index (omega arith) ∙ c.requires.readable.2)
+    let all = whole _ _ _ _ c.loop-step.invariant (omega arith) c.requires.readable.2 in
+    search (rules, all)
