@@ -43,9 +43,6 @@ stands M steps i operands st =
     let e = as_many M st.fs operands.held st.sets in
     (sym e ∙ st.reads.count, omega (arith, e, st.reads.few))
 
-pub none_stacked : (M : Kripke) (steps : List Step) → Stacked M steps 0 (record { held = []; room = 64 })
-none_stacked M steps = record { fs = []; reads = reads_none steps; sets = tt; room = refl }
-
 module _ (M : Kripke) (rows : List Set) (linked : Linked M.frame rows) where
   -- the set has the states where a step is true of the sets of its operands
   abbrev Made : Step → (x y v : Set) → Type 0

@@ -29,5 +29,5 @@ fn moves_to_itself<M: Model>(model: &M, s: u16) -> bool
     requires { s < (M.Model.means model.now).frame.size }
     ensures { Decides result (Move (M.Model.means model.now).frame s s) }
 {
-    (0..model.degree(s)).any(|k| model.target(s, k) == Some(s))
+    model.moves(s).any(|t| t == s)
 }

@@ -41,6 +41,7 @@ pub enum Refused {
 
 /// Writes the number of each state's component to the front of `part`. The components are numbered by first member:
 /// state 0 has number 0, and each later state in no earlier component opens the next.
+// Kept: two slices side by side, each scratch of its own kind that is refused by its own length; the library takes no heap.
 pub fn find_components<M: Model>(
     model: &M,
     walks: &mut [Walk],

@@ -14,6 +14,7 @@ use models::Model;
 // met in, and the way that the walk came. The state that it is at stands beside them.
 #[derive(Drop)]
 pub struct Search<'a> {
+    // Kept: an array for the most states, since the library takes no heap.
     pub place: [Place; 128],
     pub count: u8,
     numbers: Stack<'a, u16>,
