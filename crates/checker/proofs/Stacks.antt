@@ -15,7 +15,7 @@ use Rattle.checker.specs.Tables.{Goes}
 use Rattle.checker.specs.Marks.{SetIs, TrueAt}
 use Rattle.checker.proofs.Counts.{operands-all}
 use Rattle.checker.proofs.Operators.{step_over}
-use Rattle.checker.proofs.Spelling.{after, Reads, reads_none, reads_more, denotes_one}
+use Rattle.checker.proofs.Spelling.{after, Reads, reads_more, denotes_one}
 
 -- the sets are those of the formulas, one for each
 abbrev pub SetsAre : Kripke → List Formula → List Set → Type 0

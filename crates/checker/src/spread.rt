@@ -7,41 +7,49 @@ ghost use Rattle.checker.specs.Tables.{Goes, Closed, Feeds};
 use sets::Set;
 use survey::Rows;
 
-// The states below `n` with a move into `x`: one round over the moves.
-fn before(rows: &Rows, n: usize, x: Set) -> Set
-    requires { n ≤ 128 }
-    ensures { (s : ℕ) → In result s ↔ Feeds rows.now x n s }
-{
-    Set::from_fn(n, |s| rows[s].meets(x))
+// The moves of the first `n` states, which go to states among them.
+#[derive(Clone, Copy)]
+pub(crate) struct Table<'a> {
+    pub(crate) rows: &'a Rows,
+    pub(crate) n: usize,
+    ghost few: { n ≤ 128 },
+    ghost closed: { Closed n rows.now },
 }
 
-// The states below `n` with a path that ends in `g` and is in `f` before.
-pub(crate) fn until(rows: &Rows, n: usize, f: Set, g: Set) -> Set
-    requires { (n ≤ 128) × (Closed n rows.now) }
-    ensures { (s : ℕ) → s < n → In result s ↔ ((k : ℕ) × Until (Goes rows.now) (In f) (In g) k s) }
-{
-    let mut found = g;
-    'grow: loop {
-        let more = found.or(f.and(before(rows, n, found)));
-        if more == found {
-            return found;
-        }
-        found = more;
+impl Table<'_> {
+    // The states with a move into `x`: one round over the moves.
+    fn before(&self, x: Set) -> Set
+        ensures { (s : ℕ) → In result s ↔ Feeds self.now.rows.now x self.now.n s }
+    {
+        Set::from_fn(self.n, |s| self.rows[s].meets(x))
     }
-}
 
-// The states below `n` with a path of `n` moves that is in `f` throughout. A round that drops no state is the last.
-pub(crate) fn globally(rows: &Rows, n: usize, f: Set) -> Set
-    requires { (n ≤ 128) × (Closed n rows.now) }
-    ensures { (s : ℕ) → s < n → In result s ↔ Stays (Goes rows.now) (In f) n s }
-{
-    let mut left = f;
-    for _turn in 0..n {
-        let fewer = f.and(before(rows, n, left));
-        if fewer == left {
-            return left;
+    // The states with a path that ends in `g` and is in `f` before.
+    pub(crate) fn until(&self, f: Set, g: Set) -> Set
+        ensures { (s : ℕ) → s < self.now.n → In result s ↔ ((k : ℕ) × Until (Goes self.now.rows.now) (In f) (In g) k s) }
+    {
+        let mut found = g;
+        'grow: loop {
+            let more = found.or(f.and(self.before(found)));
+            if more == found {
+                return found;
+            }
+            found = more;
         }
-        left = fewer;
     }
-    left
+
+    // The states with a path of `n` moves that is in `f` throughout. A round that drops no state is the last.
+    pub(crate) fn globally(&self, f: Set) -> Set
+        ensures { (s : ℕ) → s < self.now.n → In result s ↔ Stays (Goes self.now.rows.now) (In f) self.now.n s }
+    {
+        let mut left = f;
+        for _turn in 0..self.n {
+            let fewer = f.and(self.before(left));
+            if fewer == left {
+                return left;
+            }
+            left = fewer;
+        }
+        left
+    }
 }

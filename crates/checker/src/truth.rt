@@ -5,11 +5,11 @@ ghost use Rattle.kripke.specs.Formulas.{Formula, word};
 ghost use Rattle.survey.specs.Gaps.{Sized, Linked};
 ghost use Rattle.checker.specs.Steps.{Denotes};
 ghost use Rattle.checker.specs.Reading.{Readable, takes};
-ghost use Rattle.checker.specs.Tables.{Goes, Closed};
+ghost use Rattle.checker.specs.Tables.{Goes};
 ghost use Rattle.checker.specs.Marks.{SetIs, TrueAt};
 
 use crate::reading::MOST_STEPS;
-use crate::spread::{globally, until};
+use crate::spread::Table;
 use crate::steps::Step;
 use models::Model;
 use sets::Set;
@@ -25,14 +25,13 @@ fn labelled<M: Model>(model: &M, a: u8) -> Set
 }
 
 // Where a step is true, of the sets where its operands are, which it takes off the stack.
-fn apply<M: Model>(model: &M, rows: &Rows, step: Step, operands: &mut Stack<'_, Set>) -> Set
+fn apply<M: Model>(model: &M, table: &Table<'_>, step: Step, operands: &mut Stack<'_, Set>) -> Set
     requires sized { Sized (M.Model.means model.now).frame }
-    requires closed { Closed (M.Model.means model.now).frame.size rows.now }
+    requires count { table.now.n ≡ (M.Model.means model.now).frame.size }
     requires given { takes step ≤ length operands.old.held }
-    ensures made { let F = (M.Model.means model.now).frame in (s : ℕ) → s < F.size → In result s ↔ TrueAt (Goes rows.now) F.size (M.Model.means model.now).labels.words step (In (slice_index_or operands.old.held (takes step - 1) none)) (In (slice_index_or operands.old.held 0 none)) s }
+    ensures made { let F = (M.Model.means model.now).frame in (s : ℕ) → s < F.size → In result s ↔ TrueAt (Goes table.now.rows.now) F.size (M.Model.means model.now).labels.words step (In (slice_index_or operands.old.held (takes step - 1) none)) (In (slice_index_or operands.old.held 0 none)) s }
     ensures taken { operands.new ≡ record operands.old { held = drop (takes step) operands.old.held } }
 {
-    let n = model.size() as usize;
     match step {
         Step::True => Set::all(),
         Step::Word(a) => labelled(model, a),
@@ -44,9 +43,9 @@ fn apply<M: Model>(model: &M, rows: &Rows, step: Step, operands: &mut Stack<'_, 
         Step::Until => {
             let g = operands.pop().unwrap();
             let f = operands.pop().unwrap();
-            until(rows, n, f, g)
+            table.until(f, g)
         }
-        Step::Globally => globally(rows, n, operands.pop().unwrap()),
+        Step::Globally => table.globally(operands.pop().unwrap()),
     }
 }
 
@@ -57,10 +56,14 @@ pub(crate) fn truth<M: Model>(model: &M, rows: &Rows, steps: &[Step]) -> Set
     requires readable { Readable (M.Model.means model.now).labels.count steps.now }
     ensures { (f : Formula) × Denotes steps.now f × SetIs (M.Model.means model.now) f result }
 {
+    let table = Table {
+        rows,
+        n: model.size() as usize,
+    };
     let mut cells = [Set::NONE; MOST_STEPS];
     let mut operands = Stack::new(&mut cells);
     for step in steps {
-        let made = apply(model, rows, *step, &mut operands);
+        let made = apply(model, &table, *step, &mut operands);
         operands.push(made).unwrap();
     }
     operands.pop().unwrap()

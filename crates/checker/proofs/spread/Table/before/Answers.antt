@@ -1,6 +1,6 @@
 use Rattle.std.proofs.Common.{rules, ⊎_elim, arith}
 use Rattle.sets.proofs.Bits.{in_dec}
-use Rattle.checker.proofs.spread.before.Goals as goal
+use Rattle.checker.proofs.spread.Table.before.Goals as goal
 
 pub returns : goal.returns
 returns c s = (
