@@ -12,22 +12,23 @@ use Rattle.components.proofs.Laws.{join, all_map, at-below, unseen_open, unseen_
 abbrev on : Walk → Walk
 on w = marked w w.low
 
+-- t is met, and placed at the top of the stack
 module _ (rows : ℕ → List ℕ) (P P' : ℕ → Place) (nums : List ℕ) (t : ℕ)
     (new : P t ≡ Unseen) (put : P' t ≡ Open (length nums)) (else : (s : ℕ) → (s ≡ t → ⊥) → P' s ≡ P s) where
   keep : (s j : ℕ) → P s ≡ Open j → P' s ≡ Open j
   keep s j o = else s (λ e. unseen_open new (subst (λ x. P x ≡ Open j) e o)) ∙ o
 
-  keep-done : (s j : ℕ) → P s ≡ Done j → P' s ≡ Done j
+  pub keep-done : (s j : ℕ) → P s ≡ Done j → P' s ≡ Done j
   keep-done s j o = else s (λ e. unseen_done new (subst (λ x. P x ≡ Done j) e o)) ∙ o
 
-  was : (s j : ℕ) → P' s ≡ Open j → ((s ≡ t) × (j ≡ length nums)) ⊎ (P s ≡ Open j)
+  pub was : (s j : ℕ) → P' s ≡ Open j → ((s ≡ t) × (j ≡ length nums)) ⊎ (P s ≡ Open j)
   was s j o = ⊎_elim (λ e. inl (e, open_open o (ap P' e ∙ put))) (λ ne. inr (sym (else s ne) ∙ o)) (cases_eq s t)
 
-  was-done : (s j : ℕ) → P' s ≡ Done j → P s ≡ Done j
+  pub was-done : (s j : ℕ) → P' s ≡ Done j → P s ≡ Done j
   was-done s j o = ⊎_elim (λ e. absurd (open_done (ap P' e ∙ put) o)) (λ ne. sym (else s ne) ∙ o) (cases_eq s t)
 
   -- what is known of a place that is not Unseen lasts
-  keep-seen : (S : Place → Type 0) → (S Unseen → ⊥) → (s : ℕ) → S (P s) → S (P' s)
+  pub keep-seen : (S : Place → Type 0) → (S Unseen → ⊥) → (s : ℕ) → S (P s) → S (P' s)
   keep-seen S no' s h = ⊎_elim (λ e. absurd (no' (subst S (ap P e ∙ new) h))) (λ ne. subst S (sym (else s ne)) h) (cases_eq s t)
 
   keep-mark : (w : Walk) → Mark rows P w → Mark rows P' w

@@ -7,8 +7,8 @@ ghost use Rattle.components.specs.declared.marks.Place.TheVariants.{Unseen};
 
 use crate::marks::{Place, Walk};
 use crate::moves::inner_move;
-use stack::Stack;
 use models::Model;
+use stack::Stack;
 
 // Where each state stands, how many components are closed, and two stacks: the open states in the order that they were
 // met in, and the way that the walk came. The state that it is at stands beside them.
