@@ -5,9 +5,6 @@ use Rattle.sets.specs.Sets.{In}
 use Rattle.kripke.specs.Paths.{Until, Stays}
 use Rattle.checker.specs.Tables.{Goes, Closed, Feeds}
 
-pub over : {A B C R : Type 0} → R ↔ (A × B) → B ↔ C → R ↔ (A × C)
-over p q = (λ r. let s = p.0 r in (s.0, q.0 s.1), λ s. p.1 (s.0, q.1 s.1))
-
 -- of the states below n, x has those with a path of k moves in f
 abbrev pub Lasts : List Set → ℕ → Set → Set → ℕ → Type 0
 Lasts rows n f x k = (s : ℕ) → s < n → In x s ↔ Stays (Goes rows) (In f) k s

@@ -17,11 +17,11 @@ pub(crate) struct Table<'a> {
 }
 
 impl Table<'_> {
-    // The states with a move into `x`: one round over the moves.
-    fn before(&self, x: Set) -> Set
-        ensures { (s : ℕ) → In result s ↔ Feeds self.now.rows.now x self.now.n s }
+    // The states of `f` with a move into `x`: one round over the moves.
+    fn before(&self, f: Set, x: Set) -> Set
+        ensures { (s : ℕ) → In result s ↔ (In f s × Feeds self.now.rows.now x self.now.n s) }
     {
-        Set::from_fn(self.n, |s| self.rows[s].meets(x))
+        f.and(Set::from_fn(self.n, |s| self.rows[s].meets(x)))
     }
 
     // The states with a path that ends in `g` and is in `f` before.
@@ -30,7 +30,7 @@ impl Table<'_> {
     {
         let mut found = g;
         'grow: loop {
-            let more = found.or(f.and(self.before(found)));
+            let more = found.or(self.before(f, found));
             if more == found {
                 return found;
             }
@@ -44,7 +44,7 @@ impl Table<'_> {
     {
         let mut left = f;
         for _turn in 0..self.n {
-            let fewer = f.and(self.before(left));
+            let fewer = self.before(f, left);
             if fewer == left {
                 return left;
             }
