@@ -1,4 +1,7 @@
 //! The kinds on examples: thresholds, malformed tables, limits and a pile of kinds.
+use crate::seen::Seen;
+use checker::check;
+use checker::steps::Step::{True, Until, Word};
 use kripke::NOWHERE;
 use models::beside::SideBySide;
 use models::facts::Facts;
@@ -190,4 +193,31 @@ fn a_pile_of_kinds(rt: HostRuntime) {
         (pile.facts(1).bits, pile.facts(2).bits, pile.facts(3).bits),
         (16, 16, 0)
     );
+}
+
+#[test]
+fn a_kind_that_borrows(rt: HostRuntime) {
+    let [dusk, night] = [-100, -1100].map(|altitude| Sun {
+        altitude,
+        shutter: false,
+        guide: false,
+    });
+    let labels = [
+        Seen { sun: &dusk },
+        Seen { sun: &night },
+        Seen { sun: &dusk },
+    ];
+    let model = Listed {
+        labels: &labels,
+        offsets: &[0, 1, 2, 3],
+        targets: &[1, 1, 2],
+    };
+    assert_eq!(rt; (model.size(), model.words()), (3, 2));
+    assert_eq!(rt; (model.facts(0).bits, model.facts(1).bits), (1, 3));
+    assert!(rt; model.alike(0, 2) && !model.alike(0, 1));
+    assert!(rt; labels[0].same(&labels[2]) && !labels[0].same(&labels[1]));
+    // the first state's path comes to the night, the last one's does not
+    let mut marks = [7; 4];
+    assert_eq!(rt; check(&model, &[True, Word(1), Until], &mut marks), Ok(()));
+    assert_eq!(rt; marks, [1, 1, 0, 7]);
 }

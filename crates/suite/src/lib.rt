@@ -8,3 +8,4 @@ mod checks;
 mod kinds;
 #[cfg(test)]
 mod parts;
+pub mod seen;
