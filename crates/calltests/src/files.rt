@@ -1,5 +1,6 @@
 //! Files taken, and listings.
 use components::Walk;
+use examples::POLLS;
 use exchange::listing::listing;
 use exchange::taking::{TakeFault, take};
 use merger::analysis::Analysis;
@@ -8,8 +9,6 @@ use modelfile::faults::FaultNumbers;
 use modelfile::reading;
 use models::facts::Facts;
 use std::test::Fail;
-
-const POLLS: [u8; 17] = [5, 0, 0, 1, 0, 0, 1, 1, 1, 2, 1, 2, 1, 2, 2, 2, 4];
 
 const LISTING: &[u8; 71] =
     b"states 5\ncomponents 5\nlabels 2\nrounds 2\nclasses 3\n0 0\n1 0\n2 1\n3 0\n4 2\n-";

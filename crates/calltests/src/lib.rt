@@ -5,8 +5,6 @@
 #[cfg(test)]
 mod files;
 #[cfg(test)]
-mod models_of;
-#[cfg(test)]
 mod opening;
 #[cfg(test)]
 mod rounds;

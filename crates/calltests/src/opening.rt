@@ -1,12 +1,18 @@
 //! Models that are opened, and those that are refused, with the cause that comes first.
-use crate::models_of::{chain, open, polls};
 use components::Walk;
+use examples::{chain, polls};
 use merger::analysis::Analysis;
 use merger::answers::{OpenRefusal, Opened, Refusal};
+use models::Model;
 use models::facts::Facts;
 use models::listed::Listed;
 use std::test::Fail;
 use survey::gaps::{Gap, GapNumbers, Numbers};
+
+/// Opens a model with scratch for 128 states.
+pub fn open<M: Model>(analysis: &mut Analysis, model: &M) -> Result<Opened, OpenRefusal> {
+    analysis.open(model, &mut [Walk::BLANK; 128], &mut [0; 128])
+}
 
 #[test]
 fn polls_and_chain_open(rt: HostRuntime) -> Result<(), Fail> {

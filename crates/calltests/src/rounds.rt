@@ -1,14 +1,13 @@
 //! Rounds, runs, classes and reduced models.
-use crate::models_of::{chain, open, polls, resting, single};
+use crate::opening::open;
 use components::Walk;
+use examples::{chain, polls, resting, single};
 use merger::analysis::Analysis;
 use merger::answers::{Made, OpenRefusal, Opened, Ran, Refusal};
 use merger::lists::{Answer, Call};
 use merger::reduced::Reduced;
 use models::Model;
 use models::beside::SideBySide;
-use models::facts::Facts;
-use models::listed::Listed;
 use models::rested::Rested;
 use std::test::Fail;
 use survey::gaps::Gap;

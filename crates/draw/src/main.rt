@@ -3,16 +3,14 @@
 
 ghost use Rattle.draw.specs.Forms.{Asks};
 
-use crate::graph::{ClassGraph, StateGraph};
 use console::{Tables, refuse, run_with_arguments};
 use intake::settle_into;
 use merger::analysis::Analysis;
 use merger::reduced::Reduced;
+use printed::graph::{ClassGraph, StateGraph};
 use std::alloc::{AllocError, Global};
 use std::str::FromStr;
 use survey::MOST_STATES;
-
-mod graph;
 
 const HELP: &str = "\
 draw reads a model file from standard input and prints a graph for Graphviz:

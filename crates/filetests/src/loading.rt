@@ -1,13 +1,12 @@
 //! Files that are accepted, and each refusal with its place.
 use crate::long::long_label;
 use codec::numbers::{Number, NumberFault};
+use examples::POLLS;
 use modelfile::LONGEST;
 use modelfile::faults::{FileFault, TextFault};
 use modelfile::reading::{Tables, load};
 use models::facts::Facts;
 use std::test::Fail;
-
-const POLLS: [u8; 17] = [5, 0, 0, 1, 0, 0, 1, 1, 1, 2, 1, 2, 1, 2, 2, 2, 4];
 
 // N and the number of targets, from tables of 6 labels, 6 offsets and 3 targets.
 fn loaded(file: &[u8]) -> Result<(u16, usize), FileFault> {

@@ -12,6 +12,7 @@ use std::alloc::Global;
 use std::process::Abort;
 use std::test::Fail;
 use writing::protocol::WriteFault;
+use writing::protocol::WriteFault::{BadRow, BadSize, NoSpace};
 use writing::saving::save;
 
 // The length of the file and a buffer that it was saved into, of which so many bytes were lent. A refusal leaves the buffer.
@@ -24,11 +25,6 @@ fn saved<M: Model>(
     let answer = save(model, &mut buffer[..space.min(24)]);
     assert!(rt; answer.is_ok() || buffer == [0xEE; 24]);
     Ok((answer?, buffer))
-}
-
-// The cause of a refusal.
-fn cause<M: Model>(rt: &impl Abort, model: &M, space: usize) -> Option<u8> {
-    Some(saved(rt, model, space).err()?.cause())
 }
 
 const LABELS: [Facts; 3] = [
@@ -80,7 +76,7 @@ fn saved_and_loaded(rt: HostRuntime) -> Result<(), Fail> {
         targets: &targets,
     };
     assert_eq!(rt; saved(&rt, &again, 21), Ok((21, file)));
-    assert_eq!(rt; cause(&rt, &again, 20), Some(42));
+    assert_eq!(rt; saved(&rt, &again, 20).err(), Some(NoSpace));
     Ok(())
 }
 
@@ -111,7 +107,7 @@ fn other_kinds_saved(rt: HostRuntime) -> Result<(), Fail> {
     let (len, file) = saved(&rt, &both, 10)?;
     assert_eq!(rt; len, 10);
     assert!(rt; file[0..11] == [3, 1, 19, 19, 1, 0, 1, 1, 1, 1, 0xEE][0..11]);
-    assert_eq!(rt; cause(&rt, &both, 9), Some(42));
+    assert_eq!(rt; saved(&rt, &both, 9).err(), Some(NoSpace));
     // not rested, its row stays empty
     let (len, file) = saved(&rt, &both.below, 24)?;
     assert_eq!(rt; len, 9);
@@ -131,15 +127,15 @@ fn no_states(rt: HostRuntime) {
         offsets: &OFFSETS[0..3],
         targets: &TARGETS,
     };
-    assert_eq!(rt; cause(&rt, &none, 0), Some(41));
-    assert_eq!(rt; cause(&rt, &malformed, 24), Some(41));
+    assert_eq!(rt; saved(&rt, &none, 0).err(), Some(BadSize));
+    assert_eq!(rt; saved(&rt, &malformed, 24).err(), Some(BadSize));
     let both = Rested {
         below: SideBySide {
             first: none,
             second: malformed,
         },
     };
-    assert_eq!(rt; cause(&rt, &both, 24), Some(41));
+    assert_eq!(rt; saved(&rt, &both, 24).err(), Some(BadSize));
 }
 
 // Two states whose rows have two moves and one.
@@ -147,15 +143,15 @@ fn no_states(rt: HostRuntime) {
 fn refusals_in_their_order(rt: HostRuntime) {
     // N, the labels and the two rows take 1, 2, 3 and 2 bytes; 2 is no state
     for (targets, space, why) in [
-        ([0, 1, 2], 24, Some(45)),
-        ([0, 1, 2], 6, Some(45)),
-        ([0, 1, 2], 5, Some(42)),
-        ([0, 1, 2], 2, Some(42)),
-        ([1, 0, 2], 3, Some(45)),
-        ([1, 0, 2], 2, Some(42)),
-        ([1, 1, 0], 24, Some(45)),
-        ([0, 2, 0], 24, Some(45)),
-        ([0, 1, 1], 7, Some(42)),
+        ([0, 1, 2], 24, Some(BadRow)),
+        ([0, 1, 2], 6, Some(BadRow)),
+        ([0, 1, 2], 5, Some(NoSpace)),
+        ([0, 1, 2], 2, Some(NoSpace)),
+        ([1, 0, 2], 3, Some(BadRow)),
+        ([1, 0, 2], 2, Some(NoSpace)),
+        ([1, 1, 0], 24, Some(BadRow)),
+        ([0, 2, 0], 24, Some(BadRow)),
+        ([0, 1, 1], 7, Some(NoSpace)),
         ([0, 1, 1], 8, None),
     ] {
         let listed = Listed {
@@ -163,7 +159,7 @@ fn refusals_in_their_order(rt: HostRuntime) {
             offsets: &[0, 2, 3],
             targets: &targets,
         };
-        assert_eq!(rt; cause(&rt, &listed, space), why);
+        assert_eq!(rt; saved(&rt, &listed, space).err(), why);
     }
 }
 
@@ -179,8 +175,8 @@ fn other_kinds_refused(rt: HostRuntime) {
         second: stray,
     };
     // N and the labels take 15 bytes, the rows of the first model 2 + 2 + 4
-    assert_eq!(rt; cause(&rt, &both, 23), Some(45));
-    assert_eq!(rt; cause(&rt, &both, 22), Some(42));
+    assert_eq!(rt; saved(&rt, &both, 23).err(), Some(BadRow));
+    assert_eq!(rt; saved(&rt, &both, 22).err(), Some(NoSpace));
 }
 
 // Saves 4,096 states without moves into so many bytes: 2,730 labels take ten bytes each, one has these bits, and the others
@@ -213,9 +209,9 @@ fn save_long(
 fn longest_saved(rt: HostRuntime) -> Result<(), Fail> {
     for (bits, space, answer) in [
         (1 << 21, LONGEST + 9, Ok(LONGEST)),
-        (1 << 28, LONGEST + 9, Err(WriteFault::NoSpace)),
+        (1 << 28, LONGEST + 9, Err(NoSpace)),
         (1 << 21, LONGEST, Ok(LONGEST)),
-        (1 << 21, LONGEST - 1, Err(WriteFault::NoSpace)),
+        (1 << 21, LONGEST - 1, Err(NoSpace)),
     ] {
         assert_eq!(rt; save_long(&rt, rt.alloc(), bits, space)?, answer);
     }

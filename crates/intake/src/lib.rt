@@ -18,9 +18,10 @@ use survey::MOST_STATES;
 // Scratch of an analysis has an entry for each state that it may have.
 const SCRATCH: usize = MOST_STATES as usize;
 
-// Why a file is not taken. TakeFault is exchange's and Fault is console's, so the answer to both is a type of intake's own.
+/// Why a file is not taken, as a program answers with it.
+// TakeFault is exchange's and Fault is console's, so the answer to both is a type of intake's own.
 #[derive(Clone, Copy)]
-struct NotTaken(TakeFault);
+pub struct NotTaken(pub TakeFault);
 
 impl Fault for NotTaken {
     ghost told = { λ n. take_told n.0 };
@@ -73,36 +74,5 @@ pub fn settle_into(rt: &HostRuntime, tables: &mut Tables) -> io::Result<Option<A
             print_fault(rt, &NotTaken(fault))?;
             Ok(None)
         }
-    }
-}
-
-#[cfg(test)]
-mod tests {
-    use super::*;
-    use std::test::Fail;
-
-    // Five states, word 0 in state 2, and the moves 0-1, 1-2, 2-2, 3-2, 4-2 and 4-4.
-    const POLLS: [u8; 17] = [5, 0, 0, 1, 0, 0, 1, 1, 1, 2, 1, 2, 1, 2, 2, 2, 4];
-
-    #[test]
-    fn polls_settled(rt: HostRuntime) -> Result<(), Fail> {
-        let mut tables = Tables::new(rt.alloc())?;
-        let analysis = settle(&POLLS, &mut tables).ok().expect(&rt, "an analysis");
-        let found = analysis.summary().ok().expect(&rt, "a summary");
-        assert_eq!(rt; (found.rounds, found.classes, found.settled), (2, 3, true));
-        Ok(())
-    }
-
-    #[test]
-    fn state_with_no_move(rt: HostRuntime) -> Result<(), Fail> {
-        let mut tables = Tables::new(rt.alloc())?;
-        let fault = settle(&[1, 0, 0], &mut tables).err().expect(&rt, "a fault");
-        let not_taken = NotTaken(fault);
-        assert_eq!(rt; not_taken.tells().cause, 15);
-        assert_eq!(rt;
-            not_taken.advice(),
-            "that state has no move: give it one, if only to itself (docs/ANALYSIS.md)"
-        );
-        Ok(())
     }
 }

@@ -2,6 +2,7 @@
 use checker::steps::Step::{Globally, Not, Or, True, Until, Word};
 use checker::steps::{Malformed, Refused, Step};
 use checker::{Numbers, check as mark_states};
+use examples::{chain, polls};
 use models::facts::Facts;
 use models::listed::Listed;
 use survey::gaps::Gap;
@@ -21,21 +22,8 @@ fn refusal(model: &Listed<'_, Facts>, steps: &[Step], count: usize) -> Option<Nu
     (marks == [7; 3]).then_some(why.numbers())
 }
 
-const POLLS: [Facts; 5] = [
-    Facts { bits: 0 },
-    Facts { bits: 0 },
-    Facts { bits: 1 },
-    Facts { bits: 0 },
-    Facts { bits: 0 },
-];
-
 #[test]
 fn operators(rt: HostRuntime) {
-    let polls = Listed {
-        labels: &POLLS,
-        offsets: &[0, 1, 2, 3, 4, 6],
-        targets: &[1, 2, 2, 2, 2, 4],
-    };
     let cases: [(&[Step], [u8; 6]); 8] = [
         (&[True], [1, 1, 1, 1, 1, 7]),
         (&[Word(0)], [0, 0, 1, 0, 0, 7]),
@@ -47,7 +35,7 @@ fn operators(rt: HostRuntime) {
         (&[Word(0), Not, Globally], [0, 0, 0, 0, 1, 7]),
     ];
     for (steps, marks) in cases {
-        assert_eq!(rt; marks_of(&polls, steps), Ok(marks));
+        assert_eq!(rt; marks_of(&polls(), steps), Ok(marks));
     }
 }
 
@@ -171,21 +159,14 @@ fn limits(rt: HostRuntime) {
 #[test]
 fn duals(rt: HostRuntime) {
     // one move from each state, so that some path has f just if no path is without it
-    let labels = [
-        Facts { bits: 1 },
-        Facts { bits: 2 },
-        Facts { bits: 4 },
-        Facts { bits: 1 },
-        Facts { bits: 2 },
-        Facts { bits: 0 },
-    ];
-    let chain = Listed {
-        labels: &labels,
-        offsets: &[0, 1, 2, 3, 4, 5, 6],
-        targets: &[1, 2, 2, 4, 5, 5],
-    };
+    let chain = chain();
     let swing = Listed {
-        labels: &labels[0..4],
+        labels: &[
+            Facts { bits: 1 },
+            Facts { bits: 2 },
+            Facts { bits: 4 },
+            Facts { bits: 1 },
+        ],
         offsets: &[0, 1, 2, 3, 4],
         targets: &[1, 0, 3, 1],
     };

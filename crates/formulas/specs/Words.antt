@@ -1,4 +1,4 @@
--- The words of the command line that stand for the steps of a formula.
+-- The words that stand for the steps of a formula.
 use Rattle.std.specs.Prelude.{◌≡◌, ℕ, ◌<◌, ◌↔◌, List, ◌∷◌, Some, codes, decimal, Option}
 use Rattle.checker.specs.declared.steps.Step.{Step}
 use Rattle.checker.specs.declared.steps.Step.TheVariants.{True, Word, Not, Or, Until, Globally}

@@ -2,8 +2,8 @@ use Rattle.std.proofs.Common.{◌≡◌, ℕ, ◌<◌, ◌↔◌, List, ◌∷�
 use Rattle.std.proofs.lemmas.Grind.{common_steps}
 use Rattle.std.specs.Option.{option_map}
 use Rattle.checker.specs.declared.steps.Step.TheVariants.{Word}
-use Rattle.ask.specs.Words.{Reads}
-use Rattle.ask.proofs.step_of.Goals as goal
+use Rattle.formulas.specs.Words.{Reads}
+use Rattle.formulas.proofs.step_of.Goals as goal
 
 -- w and what names the number are read as that word
 word_read : (w text : List ℕ) (number : Option ℕ) → ((n : ℕ) → (number ≡ Some n) ↔ ((n < 64) × (text ≡ decimal n))) → w ≡ 119 ∷ text → Reads w (option_map Word number)
