@@ -67,6 +67,7 @@ impl Fault for Gap {
 
     fn tells(&self) -> FaultNumbers {
         let told = self.numbers();
+        // Kept: exchange has the same lines; a From is for survey or modelfile to give, which do not know each other.
         FaultNumbers {
             layer: 3,
             cause: told.cause,

@@ -40,7 +40,11 @@ impl Tables {
     }
 
     /// The tables, lent to be loaded into.
-    pub fn lend(&mut self) -> reading::Tables<'_> {
+    pub fn lend(&mut self) -> reading::Tables<'_>
+        ensures labels { result.labels.now ≡ self.old.labels.items }
+        ensures offsets { result.offsets.now ≡ self.old.offsets.items }
+        ensures targets { result.targets.now ≡ self.old.targets.items }
+    {
         reading::Tables {
             labels: &mut self.labels,
             offsets: &mut self.offsets,

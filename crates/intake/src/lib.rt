@@ -11,7 +11,6 @@ use exchange::taking::{TakeFault, take};
 use merger::analysis::Analysis;
 use merger::answers::OpenRefusal;
 use modelfile::faults::FaultNumbers;
-use modelfile::reading;
 use std::io;
 use survey::MOST_STATES;
 
@@ -47,11 +46,7 @@ pub fn settle(file: &[u8], tables: &mut Tables) -> Result<Analysis, TakeFault>
     let opened = take(
         &mut analysis,
         file,
-        &mut reading::Tables {
-            labels: &mut tables.labels,
-            offsets: &mut tables.offsets,
-            targets: &mut tables.targets,
-        },
+        &mut tables.lend(),
         &mut [Walk::BLANK; SCRATCH],
         &mut [0; SCRATCH],
     )?;

@@ -110,6 +110,30 @@ fn write_rows<W: fmt::Write, M: Model>(f: &mut fmt::Formatter<W>, model: &M) -> 
     f.write_str("}\n")
 }
 
+// The graph of a model with the class of each state. A reduced one says which states of the full model are merged into each:
+// those that have its class there.
+fn write_graph<W: fmt::Write, M: Model, I: Iterator<Item = u16>>(
+    f: &mut fmt::Formatter<W>,
+    model: &M,
+    each: I,
+    merged: Option<&[u16]>,
+) -> fmt::Result
+    requires can { I.can_next each }
+    requires ends { IsFinite (I.remaining each) }
+{
+    f.write_str(HEAD)?;
+    for (state, class) in (0..model.size()).zip(each) {
+        let node = Node {
+            model,
+            state,
+            class,
+            classes: merged,
+        };
+        write!(f, "{node}")?;
+    }
+    write_rows(f, model)
+}
+
 /// The graph of a model, with the class of each of its states.
 #[derive(Drop)]
 pub struct StateGraph<'a, M> {
@@ -119,17 +143,7 @@ pub struct StateGraph<'a, M> {
 
 impl<M: Model> fmt::Display for StateGraph<'_, M> {
     fn fmt<W: fmt::Write>(&self, f: &mut fmt::Formatter<W>) -> fmt::Result {
-        f.write_str(HEAD)?;
-        for (state, class) in (0..self.model.size()).zip(self.classes.iter().copied()) {
-            let node = Node {
-                model: self.model,
-                state,
-                class,
-                classes: None,
-            };
-            write!(f, "{node}")?;
-        }
-        write_rows(f, self.model)
+        write_graph(f, self.model, self.classes.iter().copied(), None)
     }
 }
 
@@ -142,16 +156,6 @@ pub struct ClassGraph<'a, M> {
 
 impl<M: Model> fmt::Display for ClassGraph<'_, M> {
     fn fmt<W: fmt::Write>(&self, f: &mut fmt::Formatter<W>) -> fmt::Result {
-        f.write_str(HEAD)?;
-        for class in 0..self.model.size() {
-            let node = Node {
-                model: self.model,
-                state: class,
-                class,
-                classes: Some(self.classes),
-            };
-            write!(f, "{node}")?;
-        }
-        write_rows(f, self.model)
+        write_graph(f, self.model, 0..self.model.size(), Some(self.classes))
     }
 }

@@ -1,6 +1,9 @@
-use Rattle.std.proofs.Common.{arith}
-use Rattle.std.proofs.lemmas.List.{with_items_is}
-use Rattle.merger.proofs.Settling.{run_settles}
+use Rattle.std.proofs.Common.{◌≡◌, ℕ, ◌<◌, ◌≤◌, subst, sym, arith}
+use Rattle.kripke.specs.Models.{Kripke}
+use Rattle.kripke.specs.Relation.{Settles}
+use Rattle.kripke.proofs.Claims.{rounds_settle, settled_once}
+use Rattle.merger.specs.Calls.{Analysed, Promises, Continues}
+use Rattle.merger.specs.declared.analysis.Analysis.{Analysis}
 use Rattle.modelfile.specs.Files.{model_of}
 use Rattle.intake.proofs.settle.Goals as goal
 
@@ -15,5 +18,5 @@ returns c =
       settles = r.1;
       stands = r.2;
       promises = r.3;
-      denotes = simp (c.deref_mut.ensures.value, c.deref_mut-2.ensures.value, c.deref_mut-3.ensures.value) at t.held.denotes;
+      denotes = simp (c.lend.ensures.labels, c.lend.ensures.offsets, c.lend.ensures.targets) at t.held.denotes;
     }
