@@ -2,6 +2,16 @@
 use Rattle.std.proofs.Common.{◌≡◌, ℕ, zero, suc, ◌+◌, ◌*◌, ◌<◌, ◌≤◌, min, ◌⊎◌, ◌↔◌, List, [], length, get_or, take, drop, set, sym, ap, ◌∙◌, subst, inl, inr, ⊎_elim, arith}
 use Rattle.std.proofs.lemmas.Bool.{cases_eq, cases_lt}
 use Rattle.std.proofs.lemmas.List.{get_or-take, get_or-drop, get_or-set_other}
+use Rattle.std.proofs.lemmas.List.{length-take, length-append}
+use Rattle.std.proofs.lemmas.Slice.Zip.{zip_turn}
+use Rattle.std.proofs.lemmas.Fn.{fronts}
+use Rattle.std.proofs.lemmas.Iterator.{zips}
+use Rattle.std.proofs.lemmas.List.Edits.{get_or-between}
+use Rattle.std.specs.declared.iter.Zip.{Zip}
+use Rattle.std.specs.Iterator.{Yields}
+use Rattle.std.specs.Iterator.Adapters.{zip_first, zip_second}
+use Rattle.std.specs.Slice.Iter.{iter_rest}
+use Rattle.std.proofs.Common.{Iter, Bor, ◌-◌, ◌++◌, ◌∷◌, Option, Some}
 use Rattle.std.specs.Simd.{first_chunks}
 use Rattle.sets.specs.declared.Set.{Set}
 use Rattle.sets.specs.Sets.{In, none}
@@ -26,6 +36,19 @@ in-chunk n (suc k) row (suc b) i h l = in-chunk n k (drop n row) b i (omega arit
 
 pub in_chunks : (n k m : ℕ) (row : List ℕ) (b i : ℕ) → b < m → b < k → i < n → at (get_or (take m (first_chunks n k row)) b []) i ≡ at row (b * n + i)
 in_chunks n k m row b i h l low = ap (λ x. at x i) (get_or-take m (first_chunks n k row) b [] h) ∙ in-chunk n k row b i l low
+
+-- two lists are gone through side by side from place a up to b: the next pair
+pub pair_turn : {A B : Type 0} (ks : List A) (vs : List B) (a b : ℕ) (xs : List (Bor A × Bor B)) (s t u : Zip (Iter A) (Iter B)) (r : Option (Bor A × Bor B)) →
+    iter_rest (zip_first s) ≡ take (b - a) (drop a ks) → iter_rest (zip_second s) ≡ take (b - a) (drop a vs) → Yields (zips fronts fronts) s xs t →
+    (p : Bor A × Bor B) → r ≡ Some p → zips fronts fronts t r u → (d : A) (e : B) →
+    (get_or ks (a + length xs) d ≡ p.0.now) × (get_or vs (a + length xs) e ≡ p.1.now) × (a + length xs + 1 ≡ a + length (xs ++ p ∷ []))
+pair_turn ks vs a b xs s t u r first second y p is steps d e =
+    let z = zip_turn _ _ xs s t u r first second y p is steps in
+    let low : a + length xs < b = omega (arith, z.0, length-take (b - a) (drop a ks)) in (
+      sym (z.2 d ∙ get_or-between ks a b (length xs) d low),
+      sym (z.3 e ∙ get_or-between vs a b (length xs) e low),
+      omega (arith, length-append xs (p ∷ [])),
+    )
 
 -- all has what is in the sets of the marked components below n
 abbrev pub Gathered : Set → List ℕ → List Set → ℕ → ℕ → Type 0

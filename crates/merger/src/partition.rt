@@ -23,11 +23,12 @@ pub(crate) struct Partition {
     ghost some: { (c : ℕ) → c < classes → (set_at members c).bits ≢ 0 },
 }
 
-// The item in `heads` that has this row, if there is one.
-fn find_like(heads: Set, rows: &[Set; 128], row: Set) -> Option<usize>
-    ensures { MatchOption result ((j : ℕ) → In heads j → Same (set_at rows.now j) row → ⊥) (λ j. In heads j × Same (set_at rows.now j) row) }
+// The item in `heads` that has the row of item `k`, if there is one.
+fn find_like(heads: Set, rows: &[Set; 128], k: usize) -> Option<usize>
+    requires { k < 128 }
+    ensures { MatchOption result ((j : ℕ) → In heads j → Same (set_at rows.now j) (set_at rows.now k) → ⊥) (λ j. In heads j × Same (set_at rows.now j) (set_at rows.now k)) }
 {
-    heads.into_iter().find(|&j| rows[j].same(row))
+    heads.into_iter().find(|&j| rows[j].same(rows[k]))
 }
 
 // The items below `len`, those together that are of one class and have the same row.
@@ -40,9 +41,9 @@ fn part(rows: &[Set; 128], class: &[u8; 128], len: usize) -> Partition
     let mut parted = Partition::new();
     // of each old class: the first item of each new class in it
     let mut heads = [Set::NONE; 128];
-    for k in 0..len {
-        let own = class[k] as usize;
-        let into = match find_like(heads[own], rows, rows[k]) {
+    for (k, &own) in class[..len].iter().enumerate() {
+        let own = own as usize;
+        let into = match find_like(heads[own], rows, k) {
             Some(j) => parted.class_of(j),
             None => {
                 heads[own] = heads[own].with(k);
@@ -76,8 +77,8 @@ impl Partition {
         ensures ranked { Ranked len (at result.class) result.classes }
     {
         let mut numbered = Partition::new();
-        for k in 0..len {
-            numbered.put(number[k] as usize);
+        for &class in &number[..len] {
+            numbered.put(class as usize);
         }
         numbered
     }
@@ -182,9 +183,9 @@ impl Partition {
         ensures { (k : ℕ) → In result k ↔ ((c : ℕ) × (c < self.now.classes) × Several (set_at self.now.members c) × In (set_at self.now.members c) k) }
     {
         let mut all = Set::NONE;
-        for c in 0..self.classes {
-            if self.members[c].several() {
-                all = all.or(self.members[c]);
+        for class in &self.members[..self.classes] {
+            if class.several() {
+                all = all.or(*class);
             }
         }
         all

@@ -29,9 +29,9 @@ fn union_between(row: &[u8; 128], sets: &[Set; 128], from: usize, end: usize, al
     ensures { (c : ℕ) → In result c ↔ (In all c ⊎ ((l : ℕ) × (from ≤ l) × (l < end) × (at row.now l ≡ 1) × In (set_at sets.now l) c)) }
 {
     let mut more = all;
-    for l in from..end {
-        if row[l] == 1 {
-            more = more.or(sets[l]);
+    for (&mark, &set) in row[from..end].iter().zip(&sets[from..end]) {
+        if mark == 1 {
+            more = more.or(set);
         }
     }
     more
@@ -75,8 +75,8 @@ impl Reach {
         requires { count ≤ 128 }
         ensures { (k l : ℕ) → k < count → On self.new k l ↔ In (set_at sets.now k) l }
     {
-        for k in 0..count {
-            self.rows[k] = table(0, sets[k], |_| 1);
+        for (k, row) in self.rows[..count].iter_mut().enumerate() {
+            *row = table(0, sets[k], |_| 1);
         }
     }
 
@@ -93,9 +93,9 @@ impl Reach {
         requires { old.now.len ≡ new.now.len }
         ensures { Narrowed self.old self.new old.now new.now }
     {
-        for k in 0..old.len() {
+        for (k, row) in self.rows[..old.len()].iter_mut().enumerate() {
             let gone = old.group_of(k).minus(new.group_of(k));
-            clear(&mut self.rows[k], gone);
+            clear(row, gone);
         }
     }
 }

@@ -1,4 +1,4 @@
-use Rattle.std.proofs.Common.{◌≡◌, ℕ, ◌↔◌, [], length, ◌∙◌, ⊎_elim, arith, rules, length-set}
+use Rattle.std.proofs.Common.{◌≡◌, ℕ, ◌↔◌, [], ⊎_elim, arith, rules}
 use Rattle.sets.specs.Sets.{In}
 use Rattle.sets.proofs.Bits.{in_dec}
 use Rattle.merger.specs.Grids.{at, set_at}
@@ -7,14 +7,10 @@ use Rattle.merger.proofs.reach.Reach.fill.Goals as goal
 
 pub loop-k-preserved : goal.loop-k-preserved
 loop-k-preserved c =
-    let i = c.loop-k.invariant in
     let set = set_at c.args.sets.now c.loop-k.k in
-    let long : length c.loop-k.self.rows ≡ 128 = i.0 in
     let marks : (l : ℕ) → (at c.table.result l ≡ 1) ↔ In set l = λ l. (
       (λ e. ⊎_elim (λ h. h) (λ out. let o = c.table.ensures.others l out in absurd (omega arith)) (in_dec set.bits l)),
       (λ h. search (rules, c.table.ensures.made l 0 h)),
-    ) in (
-      length-set c.loop-k.self.rows _ _ ∙ long,
-      filled_more [] (λ k row. (j : ℕ) → (at row j ≡ 1) ↔ In (set_at c.args.sets.now k) j) c.loop-k.self.rows c.loop-k.k c.table.result
-          (omega arith) i.1 marks,
-    )
+    ) in
+    filled_more [] (λ k row. (j : ℕ) → (at row j ≡ 1) ↔ In (set_at c.args.sets.now k) j) c.loop-k.row-items c.loop-k.k c.table.result
+    (omega (arith, c.loop-k-test.true, c.loop-k.auto.row-items)) c.loop-k.invariant marks
