@@ -1,5 +1,5 @@
 -- Tables in which every place is the same, and what a write leaves.
-use Rattle.std.proofs.Common.{◌≡◌, ℕ, zero, suc, ◌/◌, ◌%◌, ◌^◌, ◌<◌, false, ltb, List, length, get_or, set, replicate, sym, refl, subst, ⊎_elim}
+use Rattle.std.proofs.Common.{◌≡◌, ℕ, zero, suc, ◌+◌, ◌/◌, ◌%◌, ◌^◌, ◌<◌, false, ltb, List, length, get_or, set, replicate, sym, refl, subst, ⊎_elim, arith}
 use Rattle.std.proofs.lemmas.Bool.{and_right, ne_eqb, cases_eq}
 use Rattle.std.proofs.lemmas.List.{get_or-set_same, get_or-set_other}
 use Rattle.kripke.specs.Words.{bit}
@@ -22,3 +22,9 @@ after_set d table k x room P here others c = ⊎_elim
     (λ e. subst (λ i. P i (get_or (set table k x) i d)) (sym e) (subst (P k) (sym (get_or-set_same table k x d room)) here))
     (λ n. subst (P c) (sym (get_or-set_other table k c x d n)) (others c n))
     (cases_eq c k)
+
+-- a filled table, one place further
+pub filled_more : {X : Type 0} (d : X) (P : ℕ → X → Type 0) (table : List X) (n : ℕ) (x : X) → n < length table →
+    ((k : ℕ) → k < n → P k (get_or table k d)) → P n x → (k : ℕ) → k < n + 1 → P k (get_or (set table n x) k d)
+filled_more d P table n x room was here k h =
+    after_set d table n x room (λ k v. k < n + 1 → P k v) (λ _. here) (λ k other l. was k (omega arith)) k h

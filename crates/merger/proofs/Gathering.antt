@@ -1,21 +1,18 @@
 -- What is in the sets of the components that a row marks, gathered along the row; and marks cleared.
-use Rattle.std.proofs.Common.{◌≡◌, ℕ, zero, suc, ◌+◌, ◌*◌, ◌<◌, ◌≤◌, min, ◌⊎◌, ◌↔◌, List, [], length, get_or, take, drop, set, sym, ap, ◌∙◌, subst, inl, inr, ⊎_elim, arith}
+use Rattle.std.proofs.Common.{◌≡◌, ℕ, zero, suc, ◌+◌, ◌-◌, ◌*◌, ◌<◌, ◌≤◌, min, ◌⊎◌, ◌↔◌, Option, Some, List, [], ◌∷◌, ◌++◌, length, get_or, take, drop, set, Iter, Bor, sym, ap, ◌∙◌, subst, inl, inr, ⊎_elim, arith}
 use Rattle.std.proofs.lemmas.Bool.{cases_eq, cases_lt}
-use Rattle.std.proofs.lemmas.List.{get_or-take, get_or-drop, get_or-set_other}
-use Rattle.std.proofs.lemmas.List.{length-take, length-append}
-use Rattle.std.proofs.lemmas.Slice.Zip.{zip_turn}
-use Rattle.std.proofs.lemmas.Fn.{fronts}
-use Rattle.std.proofs.lemmas.Iterator.{zips}
+use Rattle.std.proofs.lemmas.List.{get_or-take, get_or-drop, get_or-set_other, length-take, length-append}
 use Rattle.std.proofs.lemmas.List.Edits.{get_or-between}
+use Rattle.std.proofs.lemmas.Slice.Zip.{zip_turn}
+use Rattle.std.proofs.lemmas.Iterator.{zips}
+use Rattle.std.proofs.lemmas.Fn.{fronts}
 use Rattle.std.specs.declared.iter.Zip.{Zip}
 use Rattle.std.specs.Iterator.{Yields}
 use Rattle.std.specs.Iterator.Adapters.{zip_first, zip_second}
 use Rattle.std.specs.Slice.Iter.{iter_rest}
-use Rattle.std.proofs.Common.{Iter, Bor, ◌-◌, ◌++◌, ◌∷◌, Option, Some}
 use Rattle.std.specs.Simd.{first_chunks}
 use Rattle.sets.specs.declared.Set.{Set}
-use Rattle.sets.specs.Sets.{In, none}
-use Rattle.sets.proofs.Bits.{none_in}
+use Rattle.sets.specs.Sets.{In}
 use Rattle.merger.specs.Grids.{at, set_at}
 use Rattle.merger.proofs.Blank.{after_set}
 
@@ -60,9 +57,6 @@ Added before after row sets from n =
     (c : ℕ) → In after c ↔ (In before c ⊎ ((l : ℕ) × (from ≤ l) × (l < n) × (at row l ≡ 1) × In (set_at sets l) c))
 
 module _ (before : Set) (row : List ℕ) (sets : List Set) (from : ℕ) where
-  pub added_none : Added before before row sets from from
-  added_none c = (inl, ⊎_elim (λ h. h) (λ p. absurd (omega (arith, p.1, p.2))))
-
   pub added_off : (more : Set) (n : ℕ) → Added before more row sets from n → (at row n ≡ 1 → ⊥) → Added before more row sets from (n + 1)
   added_off more n A off c = (
     (λ h. ⊎_elim inl (λ p. inr (p.0, p.1, omega (arith, p.2), p.3, p.4)) ((A c).0 h)),
@@ -91,9 +85,6 @@ module _ (before : Set) (row : List ℕ) (sets : List Set) (from : ℕ) where
   )
 
 module _ (row : List ℕ) (sets : List Set) (count : ℕ) where
-  pub gathered_none : Gathered none row sets count 0
-  gathered_none c = ((λ h. absurd (none_in c h)), (λ p. absurd (omega (arith, p.1))))
-
   -- d more places without a mark
   pub gathered_past : (all : Set) (n d : ℕ) → Gathered all row sets count n → ((j : ℕ) → n ≤ j → j < n + d → at row j ≡ 1 → ⊥) →
       Gathered all row sets count (n + d)
@@ -116,13 +107,6 @@ module _ (row : List ℕ) (sets : List Set) (count : ℕ) where
         (λ low. inl ((G c).1 (p.0, low, p.2, p.3, p.4)))
         (λ past. inr (p.0, past, omega (arith, p.1, p.2), p.3, p.4))
         (cases_lt p.0 n))),
-  )
-
-  pub gathered_all : (all : Set) (n : ℕ) → count ≤ n → Gathered all row sets count n →
-      (c : ℕ) → In all c ↔ ((l : ℕ) × (l < count) × (at row l ≡ 1) × In (set_at sets l) c)
-  gathered_all all n past G c = (
-    (λ h. let p = (G c).0 h in (p.0, p.2, p.3, p.4)),
-    (λ p. (G c).1 (p.0, omega (arith, p.1), p.1, p.2, p.3)),
   )
 
 -- the marks of what is in gone and no more in left are cleared

@@ -5,7 +5,6 @@ pub mod Joining
 pub mod Placing
 pub mod Advancing
 pub mod Moving
-pub mod Tying
 pub mod Closing
 pub mod Speaking
 pub mod Starting

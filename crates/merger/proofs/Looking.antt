@@ -92,9 +92,6 @@ abbrev pub SharedBelow : List Set → Set → ℕ → Type 0
 SharedBelow members all n = (k : ℕ) → In all k ↔ ((c : ℕ) × (c < n) × Several (set_at members c) × In (set_at members c) k)
 
 module _ (members : List Set) where
-  pub shared_none : SharedBelow members none 0
-  shared_none k = ((λ h. absurd (none_in k h)), (λ p. absurd (omega (arith, p.1))))
-
   pub shared_on : (all all' : Set) (n : ℕ) → SharedBelow members all n → Several (set_at members n) →
       ((k : ℕ) → In all' k ↔ (In all k ⊎ In (set_at members n) k)) → SharedBelow members all' (n + 1)
   shared_on all all' n A many joined k = (

@@ -19,7 +19,7 @@ use Rattle.merger.specs.declared.reduced.Reduced.{Reduced as ReducedModel}
 use Rattle.merger.specs.Promise.{Classes, Promise}
 use Rattle.merger.specs.Reducing.{meaning, Fills}
 use Rattle.merger.specs.Tells.{ClassTells, ReducedTells}
-use Rattle.merger.specs.Calls.{Analysed, RoundAnswer, RunAnswer, ClassAnswer, TogetherAnswer, ReducedAnswer}
+use Rattle.merger.specs.Calls.{Analysed, Continues, RoundAnswer, RunAnswer, ClassAnswer, TogetherAnswer, ReducedAnswer}
 use Rattle.merger.specs.Runs.{Answered, answer_of, asks, asked, CallTells, CallAnswer, call_at, rounds_before, SettledBefore, Due, Classed, Performed}
 use Rattle.merger.proofs.Rounding.{settles_once}
 use Rattle.merger.proofs.Promising.{promise}
@@ -37,39 +37,41 @@ pub filled_is : (w : Result (Unit {0}) Refusal) (answer : Answered) → answer �
 filled_is (Ok x) answer h = h
 filled_is (Err e) answer h = h
 
+round_apart : Round ≡ Reduced → ⊥
+round_apart e = let z : ◌≡◌ {A = ℕ} 0 1 = cc in omega arith
+
+run_apart : (n : ℕ) → Run n ≡ Reduced → ⊥
+run_apart n e = let z : ◌≡◌ {A = ℕ} 0 1 = cc in omega arith
+
+class_apart : (s : ℕ) → Class s ≡ Reduced → ⊥
+class_apart s e = let z : ◌≡◌ {A = ℕ} 0 1 = cc in omega arith
+
+together_apart : (s t : ℕ) → Together s t ≡ Reduced → ⊥
+together_apart s t e = let z : ◌≡◌ {A = ℕ} 0 1 = cc in omega arith
+
+-- a call that leaves the model to fill
+leaving : (a b : Analysis) (x : ReducedModel) (k : Call) (answer : Answered) → (k ≡ Reduced → ⊥) → Continues (asks k) a b →
+    ((M : Kripke) (r : ℕ) → Analysed M r a → CallTells M r k answer) → CallAnswer a b x x k answer
+leaving a b x k answer apart more tells = record {
+  continues = more;
+  told = tells;
+  fills = λ M r B i. absurd (apart i);
+  keeps = λ M r B n. refl;
+}
+
 module _ (a b : Analysis) (x : ReducedModel) where
   pub call_round : (w : Result Made Refusal) (answer : Answered) → answer ≡ answer_of WasMade w → RoundAnswer a b w → CallAnswer a b x x Round answer
-  call_round w answer e A = record {
-    continues = A.continues;
-    told = λ M r B. (w, e, A.told M r B);
-    fills = λ M r B i z. absurd (let z : ◌≡◌ {A = ℕ} 0 1 = cc in omega arith);
-    keeps = λ M r B n. refl;
-  }
+  call_round w answer e A = leaving a b x Round answer round_apart A.continues (λ M r B. (w, e, A.told M r B))
 
   pub call_run : (budget : ℕ) (w : Result Ran Refusal) (answer : Answered) → answer ≡ answer_of HasRun w → RunAnswer a b budget w → CallAnswer a b x x (Run budget) answer
-  call_run budget w answer e A = record {
-    continues = A.continues;
-    told = λ M r B. (w, e, A.told M r B);
-    fills = λ M r B i z. absurd (let z : ◌≡◌ {A = ℕ} 0 1 = cc in omega arith);
-    keeps = λ M r B n. refl;
-  }
+  call_run budget w answer e A = leaving a b x (Run budget) answer (run_apart budget) A.continues (λ M r B. (w, e, A.told M r B))
 
 module _ (a : Analysis) (x : ReducedModel) where
   pub call_class : (s : ℕ) (w : Result ℕ Refusal) (answer : Answered) → answer ≡ answer_of InClass w → ClassAnswer a s w → CallAnswer a a x x (Class s) answer
-  call_class s w answer e A = record {
-    continues = continues_none a;
-    told = λ M r B. (w, e, A.told M r B);
-    fills = λ M r B i z. absurd (let z : ◌≡◌ {A = ℕ} 0 1 = cc in omega arith);
-    keeps = λ M r B n. refl;
-  }
+  call_class s w answer e A = leaving a a x (Class s) answer (class_apart s) (continues_none a) (λ M r B. (w, e, A.told M r B))
 
   pub call_together : (s t : ℕ) (w : Result Bool Refusal) (answer : Answered) → answer ≡ answer_of AreTogether w → TogetherAnswer a s t w → CallAnswer a a x x (Together s t) answer
-  call_together s t w answer e A = record {
-    continues = continues_none a;
-    told = λ M r B. (w, e, A.told M r B);
-    fills = λ M r B i z. absurd (let z : ◌≡◌ {A = ℕ} 0 1 = cc in omega arith);
-    keeps = λ M r B n. refl;
-  }
+  call_together s t w answer e A = leaving a a x (Together s t) answer (together_apart s t) (continues_none a) (λ M r B. (w, e, A.told M r B))
 
 reduced_told : (M : Kripke) (r : ℕ) (x y : ReducedModel) (w : Result (Unit {0}) Refusal) → ReducedTells M r x y w → CallTells M r Reduced (answer_of (λ _. Filled) w)
 reduced_told M r x y (Ok u) T = ((λ z. refl), λ n. (T.going n).0)
@@ -89,10 +91,10 @@ call_reduced a x y w answer e A = record {
 }
 
 is_reduced : (k : Call) → (k ≡ Reduced) ⊎ (k ≡ Reduced → ⊥)
-is_reduced Round = inr (λ e. let z : ◌≡◌ {A = ℕ} 0 1 = cc in omega arith)
-is_reduced (Run n) = inr (λ e. let z : ◌≡◌ {A = ℕ} 0 1 = cc in omega arith)
-is_reduced (Class s) = inr (λ e. let z : ◌≡◌ {A = ℕ} 0 1 = cc in omega arith)
-is_reduced (Together s t) = inr (λ e. let z : ◌≡◌ {A = ℕ} 0 1 = cc in omega arith)
+is_reduced Round = inr round_apart
+is_reduced (Run n) = inr (run_apart n)
+is_reduced (Class s) = inr (class_apart s)
+is_reduced (Together s t) = inr (together_apart s t)
 is_reduced Reduced = inl refl
 
 asked_push : (xs : List Call) (y : Call) → asked (xs ++ y ∷ []) ≡ asked xs + asks y

@@ -1,5 +1,5 @@
 -- The tables of an analysis keep the promise.
-use Rattle.std.proofs.Common.{◌≡◌, ℕ, suc, ◌+◌, ◌-◌, ◌<◌, ◌≤◌, min, Bool, true, false, eqb, Decides, inl, ⊎_elim, arith}
+use Rattle.std.proofs.Common.{◌≡◌, ℕ, suc, ◌+◌, ◌-◌, ◌<◌, ◌≤◌, min, true, false, eqb, Decides, inl, ⊎_elim, arith}
 use Rattle.std.proofs.lemmas.Bool.{cases_Bool, both_ways, eqb-true, eqb-false, eq-eqb}
 use Rattle.kripke.specs.Models.{Kripke, WellFormed, Total}
 use Rattle.kripke.specs.Formulas.{Agree}
@@ -13,7 +13,7 @@ use Rattle.merger.specs.declared.tables.Rounds.{Rounds}
 use Rattle.merger.specs.Tables.{class_of}
 use Rattle.merger.specs.Analysed.{Surveyed, Tabled}
 use Rattle.merger.specs.Promise.{Classes, Told, Promise, Reaches}
-use Rattle.merger.proofs.Rounding.{settles_after, settles_once, stands_at, settling}
+use Rattle.merger.proofs.Rounding.{settles_after, stands_at, settling}
 
 -- after the settling round nothing is parted
 pub settles_stable : (M : Kripke) (r : ℕ) → Settles M r → Stable M r
@@ -89,15 +89,6 @@ module _ (M : Kripke) (r k budget : ℕ) (F : Found) (S : Rounds) (F' : Found) (
       ⊎_elim
       (λ p. (z.0, z.2, omega (arith, p.1), omega (arith, p.1)))
       (λ p.
-      let full : k < budget → ⊥ = λ l. both (up l) p.0 in
+      let full : k < budget → ⊥ = λ l. both_ways _ p.0 (up l) in
       (z.0, z.2, omega (arith, p.1), omega (arith, p.1)))
       (stands_at M (r + k) z.0 F' S' B z.2)
-    where
-      both : {b : Bool} → b ≡ true → b ≡ false → ⊥
-      both p q = both_ways _ q p
-
--- one stretch after another
-pub reaches_join : (M : Kripke) (r a b q p : ℕ) → Reaches M r a q → Reaches M q b p → Reaches M r (a + b) p
-reaches_join M r a b q p x y =
-    let e = settles_once M x.0 y.0 x.1 y.1 in
-    (y.0, y.1, omega (arith, x.2, y.2))

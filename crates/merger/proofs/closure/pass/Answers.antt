@@ -1,5 +1,5 @@
 use Rattle.std.proofs.Common.{◌≡◌, length, ◌∙◌, arith, length-set}
-use Rattle.std.proofs.lemmas.Bool.{both_ways}
+use Rattle.std.proofs.lemmas.Bool.{iff_false}
 use Rattle.merger.proofs.Closing.{passed_on, passed_off}
 use Rattle.merger.proofs.closure.pass.Goals as goal
 
@@ -21,5 +21,5 @@ loop-k-preserved c =
       tt,
       tt,
       i.2,
-      passed_off _ _ _ _ c.loop-k.k-iterator.left c.in-Some.k _ i.3 c.in-Some.ensures.steps (λ h. both_ways c.has.result c.if-has.false (c.has.ensures.1 h)),
+      passed_off _ _ _ _ c.loop-k.k-iterator.left c.in-Some.k _ i.3 c.in-Some.ensures.steps (iff_false c.has.ensures c.if-has.false),
     )

@@ -1,5 +1,5 @@
 use Rattle.std.proofs.Common.{◌≡◌, ◌+◌, ◌<◌, sym, subst, arith}
-use Rattle.std.proofs.lemmas.Bool.{both_ways}
+use Rattle.std.proofs.lemmas.Bool.{iff_false}
 use Rattle.std.proofs.lemmas.List.{length-take, get_or-take}
 use Rattle.sets.specs.Sets.{none}
 use Rattle.merger.proofs.Looking.{SharedBelow, shared_on, shared_off}
@@ -16,7 +16,7 @@ loop-class-preserved c =
       | then-several w ↦ subst (λ all. SharedBelow members all (n + 1)) (sym w.all-is)
           (shared_on members c.loop-class.all _ n c.loop-class.invariant (rw e at (c.several.ensures.0 w.if-several.true)) (rw e at w.or-all.ensures.means))
       | else-several w ↦ subst (λ all. SharedBelow members all (n + 1)) (sym w.all-is)
-          (shared_off members c.loop-class.all n c.loop-class.invariant (λ h. both_ways c.several.result w.if-several.false (c.several.ensures.1 (rw (sym e) at h))))
+          (shared_off members c.loop-class.all n c.loop-class.invariant (rw e at (iff_false c.several.ensures w.if-several.false)))
     ]
 
 pub returns : goal.returns

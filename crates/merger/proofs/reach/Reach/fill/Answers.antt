@@ -2,7 +2,7 @@ use Rattle.std.proofs.Common.{◌≡◌, ℕ, ◌↔◌, [], ⊎_elim, arith, ru
 use Rattle.sets.specs.Sets.{In}
 use Rattle.sets.proofs.Bits.{in_dec}
 use Rattle.merger.specs.Grids.{at, set_at}
-use Rattle.merger.proofs.Tying.{filled_more}
+use Rattle.merger.proofs.Blank.{filled_more}
 use Rattle.merger.proofs.reach.Reach.fill.Goals as goal
 
 pub loop-k-preserved : goal.loop-k-preserved

@@ -42,6 +42,6 @@ returns c k l h =
     let few = c.args.old.now.few in
     let sized : length rows ≡ 128 = search rules in
     let past = c.loop-k-test.false in
+    let done = c.loop-k.invariant.done k l (omega arith) in
     let here = get_or_append_left c.loop-k.row-items _ [] k (omega arith) in
-    let there = get_or-take c.len.result rows k [] low in
-    rw (sym here) at (rw there at (c.loop-k.invariant.done k l (omega arith)))
+    rw (sym here) at (rw (get_or-take c.len.result rows k [] low) at done)
