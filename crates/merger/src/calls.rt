@@ -23,17 +23,14 @@ impl Analysis {
     pub fn new() -> Analysis
         ensures { result.opened ≡ false }
     {
-        let component = [0; 128];
-        let facts = [0; 128];
-        let moves = [Set::NONE; 128];
         let found = Found {
             states: 0,
             words: 0,
             components: 0,
             labels: 0,
-            component,
-            facts,
-            moves,
+            component: [0; 128],
+            facts: [0; 128],
+            moves: [Set::NONE; 128],
         };
         let rounds = Rounds {
             made: 0,
@@ -49,6 +46,7 @@ impl Analysis {
     }
 
     /// Opens a model, in place of what was opened before. The memory lent for walk records and state numbers is free afterwards.
+    // Kept: two slices side by side, each scratch of its own; of a struct of both, every call would say that it holds both still.
     pub fn open<M: Model>(
         &mut self,
         model: &M,

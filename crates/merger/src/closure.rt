@@ -40,6 +40,7 @@ pub(crate) fn close(moves: &[Set; 128], classes: &Partition) -> [Set; 128]
     ensures { (k l : ℕ) → k < classes.now.len → In (set_at result k) l ↔ ((n : ℕ) × Trail (Inner moves.now classes.now) (λ j. j < classes.now.len) n k l) }
 {
     let mut reach = inner(moves, classes);
+    // Kept: a range of components, not of rows: each pass reads row `mid` and writes others, so no row can be lent meanwhile.
     for mid in 0..classes.len() {
         pass(&mut reach, mid, classes.group_of(mid));
     }

@@ -14,13 +14,11 @@ impl Reduced {
     pub fn empty() -> Reduced
         ensures { ((meaning result).frame.size ≡ 0) × ((meaning result).labels.count ≡ 0) }
     {
-        let facts = [0; 128];
-        let moves = [Set::NONE; 128];
         Reduced {
             states: 0,
             words: 0,
-            facts,
-            moves,
+            facts: [0; 128],
+            moves: [Set::NONE; 128],
         }
     }
 }

@@ -8,6 +8,7 @@ ghost use Rattle.merger.specs.Grids.{at, set_at, Groups, Several, Same, Like};
 use sets::Set;
 
 // The items below `len` in classes.
+// Kept: arrays of fixed size, each with its count, since the libraries take no heap and stand on std alone.
 #[derive(Drop)]
 pub(crate) struct Partition {
     len: usize,
@@ -169,10 +170,10 @@ impl Partition {
     {
         let mut all = Set::NONE;
         let mut left = items;
+        // Kept: each turn drops a whole class, whose other items tell nothing new; a `for` over the items would look at each.
         while let Some((k, rest)) = left.split_first() {
             let class = self.class_of(k);
             all = all.with(class);
-            // one look for each class: its other items tell nothing new
             left = rest.minus(self.members[class]);
         }
         all

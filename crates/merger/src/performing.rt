@@ -29,6 +29,7 @@ impl Analysis {
     fn make_all(&mut self, calls: &[Call], answers: &mut [Answered], out: &mut Reduced)
         ensures { (M : Kripke) → Analysed M 0 self.old → Performed M calls.now answers.old answers.new self.new out.old out.new }
     {
+        // Kept: there may be fewer places than calls; through `get_mut(i)` the proof did not learn what the answers become.
         for (i, call) in calls.iter().enumerate() {
             let answer = self.make(*call, out);
             if i < answers.len() {

@@ -12,6 +12,7 @@ use sets::Set;
 #[derive(Drop)]
 pub(crate) struct Reach {
     // for each ordered pair one byte, which is 1 if the first reaches the second
+    // Kept: an array of fixed size, since the libraries take no heap; how many rows count, the classes tell.
     rows: [[u8; 128]; 128],
 }
 
@@ -75,6 +76,7 @@ impl Reach {
         requires { count ≤ 128 }
         ensures { (k l : ℕ) → k < count → On self.new k l ↔ In (set_at sets.now k) l }
     {
+        // Kept: under `iter_mut().zip(sets)` the check knows nothing of the rows that were written.
         for (k, row) in self.rows[..count].iter_mut().enumerate() {
             *row = table(0, sets[k], |_| 1);
         }

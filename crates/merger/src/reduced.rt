@@ -11,6 +11,7 @@ use models::{Label, Model as KripkeModel};
 use sets::Set;
 
 /// A model that an analysis fills. At first it has no states and no words.
+// Kept: two arrays with one count, each filled by one `table` from a table of the analysis; the libraries take no heap.
 #[derive(Drop)]
 pub struct Reduced {
     pub(crate) states: u16,

@@ -7,6 +7,7 @@ use crate::reach::Reach;
 use sets::Set;
 
 // What an accepted open found; no round alters it.
+// Kept: arrays of fixed size with their counts, since the libraries take no heap; each table is handed on by itself.
 #[derive(Drop)]
 pub struct Found {
     pub(crate) states: u16,
