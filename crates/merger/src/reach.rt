@@ -30,9 +30,9 @@ fn union_between(row: &[u8; 128], sets: &[Set; 128], from: usize, end: usize, al
     ensures { (c : ℕ) → In result c ↔ (In all c ⊎ ((l : ℕ) × (from ≤ l) × (l < end) × (at row.now l ≡ 1) × In (set_at sets.now l) c)) }
 {
     let mut more = all;
-    for (&mark, &set) in row[from..end].iter().zip(&sets[from..end]) {
-        if mark == 1 {
-            more = more.or(set);
+    for (mark, set) in row[from..end].iter().zip(&sets[from..end]) {
+        if *mark == 1 {
+            more = more.or(*set);
         }
     }
     more
