@@ -1,0 +1,160 @@
+//! The static library's functions, each in a safe wrapper: slices pass as a pointer and then a length.
+
+/// The words of a state: word a is bit a.
+#[repr(C)]
+#[derive(Clone, Copy, Debug, PartialEq, Eq)]
+pub struct Facts {
+    pub bits: u64,
+}
+
+/// What a call answers. Cause 0 says that it was accepted.
+#[repr(C)]
+#[derive(Clone, Copy, Debug, PartialEq, Eq)]
+pub struct Outcome {
+    pub layer: u8,
+    pub cause: u8,
+    pub number: u16,
+    pub place: usize,
+    pub length: usize,
+}
+
+impl Outcome {
+    pub fn accepted(length: usize) -> Outcome {
+        Outcome { layer: 0, cause: 0, number: 0, place: 0, length }
+    }
+
+    pub fn refused(layer: u8, cause: u8, place: usize, number: u16) -> Outcome {
+        Outcome { layer, cause, number, place, length: 0 }
+    }
+
+    /// The length of what was written, if the call was accepted.
+    pub fn written(self) -> Option<usize> {
+        (self.cause == 0).then_some(self.length)
+    }
+}
+
+/// A model by tables, as it is lent to a call.
+#[derive(Clone, Copy, Debug)]
+pub struct Listed<'a> {
+    pub labels: &'a [Facts],
+    pub offsets: &'a [u32],
+    pub targets: &'a [u16],
+}
+
+/// The tables that a file is loaded into.
+pub struct Room<'a> {
+    pub labels: &'a mut [Facts],
+    pub offsets: &'a mut [u32],
+    pub targets: &'a mut [u16],
+}
+
+mod raw {
+    use super::{Facts, Outcome};
+
+    extern "C" {
+        pub fn tulavemin_merge_file(
+            file: *const u8, file_len: usize,
+            labels: *mut Facts, labels_len: usize,
+            offsets: *mut u32, offsets_len: usize,
+            targets: *mut u16, targets_len: usize,
+            text: *mut u8, text_len: usize,
+        ) -> Outcome;
+        pub fn tulavemin_merge_tables(
+            labels: *const Facts, labels_len: usize,
+            offsets: *const u32, offsets_len: usize,
+            targets: *const u16, targets_len: usize,
+            text: *mut u8, text_len: usize,
+        ) -> Outcome;
+        pub fn tulavemin_reduce_file(
+            file: *const u8, file_len: usize,
+            labels: *mut Facts, labels_len: usize,
+            offsets: *mut u32, offsets_len: usize,
+            targets: *mut u16, targets_len: usize,
+            reduced: *mut u8, reduced_len: usize,
+        ) -> Outcome;
+        pub fn tulavemin_check_tables(
+            labels: *const Facts, labels_len: usize,
+            offsets: *const u32, offsets_len: usize,
+            targets: *const u16, targets_len: usize,
+            steps: *const u16, steps_len: usize,
+            marks: *mut u8, marks_len: usize,
+        ) -> Outcome;
+        pub fn tulavemin_components(
+            labels: *const Facts, labels_len: usize,
+            offsets: *const u32, offsets_len: usize,
+            targets: *const u16, targets_len: usize,
+            part: *mut u8, part_len: usize,
+        ) -> usize;
+    }
+}
+
+// In all of these each pointer and length come from one slice, and the library writes only into the slices that are
+// lent for writing.
+
+/// Loads a file, runs it to the end, and writes the listing at the front of `text`.
+pub fn merge_file(file: &[u8], room: Room<'_>, text: &mut [u8]) -> Outcome {
+    let Room { labels, offsets, targets } = room;
+    unsafe {
+        raw::tulavemin_merge_file(
+            file.as_ptr(), file.len(),
+            labels.as_mut_ptr(), labels.len(),
+            offsets.as_mut_ptr(), offsets.len(),
+            targets.as_mut_ptr(), targets.len(),
+            text.as_mut_ptr(), text.len(),
+        )
+    }
+}
+
+/// The same of a model by tables.
+pub fn merge_tables(model: Listed<'_>, text: &mut [u8]) -> Outcome {
+    let Listed { labels, offsets, targets } = model;
+    unsafe {
+        raw::tulavemin_merge_tables(
+            labels.as_ptr(), labels.len(),
+            offsets.as_ptr(), offsets.len(),
+            targets.as_ptr(), targets.len(),
+            text.as_mut_ptr(), text.len(),
+        )
+    }
+}
+
+/// Loads a file, runs it to the end, and writes the reduced model's file at the front of `reduced`.
+pub fn reduce_file(file: &[u8], room: Room<'_>, reduced: &mut [u8]) -> Outcome {
+    let Room { labels, offsets, targets } = room;
+    unsafe {
+        raw::tulavemin_reduce_file(
+            file.as_ptr(), file.len(),
+            labels.as_mut_ptr(), labels.len(),
+            offsets.as_mut_ptr(), offsets.len(),
+            targets.as_mut_ptr(), targets.len(),
+            reduced.as_mut_ptr(), reduced.len(),
+        )
+    }
+}
+
+/// Marks the states where the formula holds that the steps denote.
+pub fn check_tables(model: Listed<'_>, steps: &[u16], marks: &mut [u8]) -> Outcome {
+    let Listed { labels, offsets, targets } = model;
+    unsafe {
+        raw::tulavemin_check_tables(
+            labels.as_ptr(), labels.len(),
+            offsets.as_ptr(), offsets.len(),
+            targets.as_ptr(), targets.len(),
+            steps.as_ptr(), steps.len(),
+            marks.as_mut_ptr(), marks.len(),
+        )
+    }
+}
+
+/// Writes each state's component at the front of `part`, and answers how many there are.
+pub fn components(model: Listed<'_>, part: &mut [u8]) -> usize {
+    let Listed { labels, offsets, targets } = model;
+    unsafe {
+        raw::tulavemin_components(
+            labels.as_ptr(), labels.len(),
+            offsets.as_ptr(), offsets.len(),
+            targets.as_ptr(), targets.len(),
+            part.as_mut_ptr(), part.len(),
+        )
+    }
+}
