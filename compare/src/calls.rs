@@ -1,4 +1,5 @@
 //! One call of the library each, compared with what the second implementation says.
+use compare::components::components;
 use compare::dice::Dice;
 use compare::formulas::check;
 use compare::lent::{Filling, Lent};
@@ -9,7 +10,6 @@ use compare::reading::{read, Rooms};
 use compare::reducing::reduced;
 use compare::relation::{settle, Settled};
 use compare::survey::{gap, meaning, MOST_STATES};
-use compare::components::components;
 use std::collections::BTreeMap;
 use std::fmt;
 
@@ -144,10 +144,9 @@ impl Expected {
     pub fn of(job: Job, file: &[u8], rooms: Rooms) -> Expected {
         match read(file, rooms) {
             Err(fault) => Expected { loaded: Err(fault.outcome()), made: Err(fault.outcome()) },
-            Ok(model) => Expected {
-                loaded: Ok(model.tables()),
-                made: Merged::of(model).map(|merged| job.made_from(&merged)),
-            },
+            Ok(model) => {
+                Expected { loaded: Ok(model.tables()), made: Merged::of(model).map(|merged| job.made_from(&merged)) }
+            }
         }
     }
 

@@ -54,7 +54,11 @@ fn well_formed(steps: &[u16]) -> Result<(), Outcome> {
         }
         height = height - operands(step) + 1;
     }
-    if height == 1 { Ok(()) } else { Err(Outcome::refused(0, 33, 0, 0)) }
+    if height == 1 {
+        Ok(())
+    } else {
+        Err(Outcome::refused(0, 33, 0, 0))
+    }
 }
 
 // Where the formula is true that ends in this step, and `of` says so of its operands.

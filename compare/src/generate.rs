@@ -25,7 +25,7 @@ fn labels(dice: &mut Dice, size: usize) -> Vec<u64> {
 // Sets of words, most of them short in a file.
 fn word_set(dice: &mut Dice) -> u64 {
     let width = dice.pick(&[1, 1, 2, 7, 8, 14, 63, 64]);
-    dice.next() >> (64 - width)
+    dice.number() >> (64 - width)
 }
 
 // A row that is not empty: few moves, many, all, or those of a ring, a chain or a tree.
@@ -66,7 +66,7 @@ pub fn damaged(dice: &mut Dice, file: &[u8]) -> Vec<u8> {
 
 fn damage(dice: &mut Dice, file: &mut Vec<u8>) {
     let at = dice.below(file.len() + 1);
-    let any = dice.next() as u8;
+    let any = dice.number() as u8;
     let byte = dice.pick(&[0x00, 0x01, 0x7F, 0x80, 0x81, 0xFF, any]);
     match dice.below(5) {
         0 => file.truncate(at),
@@ -82,7 +82,7 @@ pub fn odd_number(dice: &mut Dice, file: &[u8]) -> Vec<u8> {
     let at = dice.below(file.len() + 1);
     let mut odd = file.to_vec();
     let mut number = Vec::new();
-    put_number(&mut number, dice.next() >> dice.below(64));
+    put_number(&mut number, dice.number() >> dice.below(64));
     match dice.below(4) {
         0 => {
             if let Some(last) = number.last_mut() {
@@ -174,13 +174,11 @@ pub fn formula(dice: &mut Dice) -> Vec<u16> {
     let wanted = dice.pick(&[1, 2, 3, 4, 5, 8, 13, 30, 64]);
     let mut steps = Vec::new();
     let mut height = 0;
-    // each step that is left can take one operand away
-    while steps.len() < wanted || height != 1 {
-        let left = 64 - steps.len();
-        let mut choice = vec![NOT, GLOBALLY, OR, UNTIL, TRUE, dice.below(4) as u16, dice.below(64) as u16];
-        let done = steps.len() + 1 >= wanted;
-        choice.retain(|&step| operands(step) <= height && !(operands(step) == 0 && (done || height >= left) && height > 0));
-        choice.retain(|&step| !done || height < 2 || operands(step) == 2);
+    for left in (0..wanted).rev() {
+        let word = dice.pick(&[0, 1, 2, 6, 13, 63]);
+        let mut choice = vec![NOT, GLOBALLY, OR, UNTIL, TRUE, word];
+        // each step that is left takes at most one operand away
+        choice.retain(|&step| operands(step) <= height && height - operands(step) <= left);
         let step = dice.pick(&choice);
         height = height - operands(step) + 1;
         steps.push(step);

@@ -42,7 +42,7 @@ pub struct Lent<T> {
 
 impl<T: Filling> Lent<T> {
     pub fn new(len: usize, dice: &mut Dice) -> Lent<T> {
-        let (first, step) = (dice.next(), dice.next() | 1);
+        let (first, step) = (dice.number(), dice.number() | 1);
         let filling = |i: usize| T::from_bits(first.wrapping_add(step.wrapping_mul(i as u64)));
         let before: Vec<T> = (0..len + 2 * MARGIN).map(filling).collect();
         Lent { held: before.clone(), before }

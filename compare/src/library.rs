@@ -53,37 +53,60 @@ mod raw {
 
     extern "C" {
         pub fn tulavemin_merge_file(
-            file: *const u8, file_len: usize,
-            labels: *mut Facts, labels_len: usize,
-            offsets: *mut u32, offsets_len: usize,
-            targets: *mut u16, targets_len: usize,
-            text: *mut u8, text_len: usize,
+            file: *const u8,
+            file_len: usize,
+            labels: *mut Facts,
+            labels_len: usize,
+            offsets: *mut u32,
+            offsets_len: usize,
+            targets: *mut u16,
+            targets_len: usize,
+            text: *mut u8,
+            text_len: usize,
         ) -> Outcome;
         pub fn tulavemin_merge_tables(
-            labels: *const Facts, labels_len: usize,
-            offsets: *const u32, offsets_len: usize,
-            targets: *const u16, targets_len: usize,
-            text: *mut u8, text_len: usize,
+            labels: *const Facts,
+            labels_len: usize,
+            offsets: *const u32,
+            offsets_len: usize,
+            targets: *const u16,
+            targets_len: usize,
+            text: *mut u8,
+            text_len: usize,
         ) -> Outcome;
         pub fn tulavemin_reduce_file(
-            file: *const u8, file_len: usize,
-            labels: *mut Facts, labels_len: usize,
-            offsets: *mut u32, offsets_len: usize,
-            targets: *mut u16, targets_len: usize,
-            reduced: *mut u8, reduced_len: usize,
+            file: *const u8,
+            file_len: usize,
+            labels: *mut Facts,
+            labels_len: usize,
+            offsets: *mut u32,
+            offsets_len: usize,
+            targets: *mut u16,
+            targets_len: usize,
+            reduced: *mut u8,
+            reduced_len: usize,
         ) -> Outcome;
         pub fn tulavemin_check_tables(
-            labels: *const Facts, labels_len: usize,
-            offsets: *const u32, offsets_len: usize,
-            targets: *const u16, targets_len: usize,
-            steps: *const u16, steps_len: usize,
-            marks: *mut u8, marks_len: usize,
+            labels: *const Facts,
+            labels_len: usize,
+            offsets: *const u32,
+            offsets_len: usize,
+            targets: *const u16,
+            targets_len: usize,
+            steps: *const u16,
+            steps_len: usize,
+            marks: *mut u8,
+            marks_len: usize,
         ) -> Outcome;
         pub fn tulavemin_components(
-            labels: *const Facts, labels_len: usize,
-            offsets: *const u32, offsets_len: usize,
-            targets: *const u16, targets_len: usize,
-            part: *mut u8, part_len: usize,
+            labels: *const Facts,
+            labels_len: usize,
+            offsets: *const u32,
+            offsets_len: usize,
+            targets: *const u16,
+            targets_len: usize,
+            part: *mut u8,
+            part_len: usize,
         ) -> usize;
     }
 }
@@ -96,11 +119,16 @@ pub fn merge_file(file: &[u8], room: Room<'_>, text: &mut [u8]) -> Outcome {
     let Room { labels, offsets, targets } = room;
     unsafe {
         raw::tulavemin_merge_file(
-            file.as_ptr(), file.len(),
-            labels.as_mut_ptr(), labels.len(),
-            offsets.as_mut_ptr(), offsets.len(),
-            targets.as_mut_ptr(), targets.len(),
-            text.as_mut_ptr(), text.len(),
+            file.as_ptr(),
+            file.len(),
+            labels.as_mut_ptr(),
+            labels.len(),
+            offsets.as_mut_ptr(),
+            offsets.len(),
+            targets.as_mut_ptr(),
+            targets.len(),
+            text.as_mut_ptr(),
+            text.len(),
         )
     }
 }
@@ -110,10 +138,14 @@ pub fn merge_tables(model: Listed<'_>, text: &mut [u8]) -> Outcome {
     let Listed { labels, offsets, targets } = model;
     unsafe {
         raw::tulavemin_merge_tables(
-            labels.as_ptr(), labels.len(),
-            offsets.as_ptr(), offsets.len(),
-            targets.as_ptr(), targets.len(),
-            text.as_mut_ptr(), text.len(),
+            labels.as_ptr(),
+            labels.len(),
+            offsets.as_ptr(),
+            offsets.len(),
+            targets.as_ptr(),
+            targets.len(),
+            text.as_mut_ptr(),
+            text.len(),
         )
     }
 }
@@ -123,11 +155,16 @@ pub fn reduce_file(file: &[u8], room: Room<'_>, reduced: &mut [u8]) -> Outcome {
     let Room { labels, offsets, targets } = room;
     unsafe {
         raw::tulavemin_reduce_file(
-            file.as_ptr(), file.len(),
-            labels.as_mut_ptr(), labels.len(),
-            offsets.as_mut_ptr(), offsets.len(),
-            targets.as_mut_ptr(), targets.len(),
-            reduced.as_mut_ptr(), reduced.len(),
+            file.as_ptr(),
+            file.len(),
+            labels.as_mut_ptr(),
+            labels.len(),
+            offsets.as_mut_ptr(),
+            offsets.len(),
+            targets.as_mut_ptr(),
+            targets.len(),
+            reduced.as_mut_ptr(),
+            reduced.len(),
         )
     }
 }
@@ -137,11 +174,16 @@ pub fn check_tables(model: Listed<'_>, steps: &[u16], marks: &mut [u8]) -> Outco
     let Listed { labels, offsets, targets } = model;
     unsafe {
         raw::tulavemin_check_tables(
-            labels.as_ptr(), labels.len(),
-            offsets.as_ptr(), offsets.len(),
-            targets.as_ptr(), targets.len(),
-            steps.as_ptr(), steps.len(),
-            marks.as_mut_ptr(), marks.len(),
+            labels.as_ptr(),
+            labels.len(),
+            offsets.as_ptr(),
+            offsets.len(),
+            targets.as_ptr(),
+            targets.len(),
+            steps.as_ptr(),
+            steps.len(),
+            marks.as_mut_ptr(),
+            marks.len(),
         )
     }
 }
@@ -151,10 +193,14 @@ pub fn components(model: Listed<'_>, part: &mut [u8]) -> usize {
     let Listed { labels, offsets, targets } = model;
     unsafe {
         raw::tulavemin_components(
-            labels.as_ptr(), labels.len(),
-            offsets.as_ptr(), offsets.len(),
-            targets.as_ptr(), targets.len(),
-            part.as_mut_ptr(), part.len(),
+            labels.as_ptr(),
+            labels.len(),
+            offsets.as_ptr(),
+            offsets.len(),
+            targets.as_ptr(),
+            targets.len(),
+            part.as_mut_ptr(),
+            part.len(),
         )
     }
 }

@@ -8,7 +8,8 @@ pub fn listing(model: &Plain, settled: &Settled) -> String {
     let Settled { class, labels, rounds, classes } = settled;
     let (_, components) = components(model);
     let n = model.size();
-    let mut text = format!("states {n}\ncomponents {components}\nlabels {labels}\nrounds {rounds}\nclasses {classes}\n");
+    let mut text =
+        format!("states {n}\ncomponents {components}\nlabels {labels}\nrounds {rounds}\nclasses {classes}\n");
     for (s, c) in class.iter().enumerate() {
         writeln!(text, "{s} {c}").expect("a string takes all text");
     }

@@ -11,8 +11,5 @@ pub fn reduced(model: &Plain, settled: &Settled) -> Plain {
         look.next.into_iter().map(|c| c as u16).collect()
     };
     let firsts: Vec<usize> = (0..settled.classes).map(first).collect();
-    Plain {
-        labels: firsts.iter().map(|&s| model.labels[s]).collect(),
-        rows: firsts.iter().map(|&s| row(s)).collect(),
-    }
+    Plain { labels: firsts.iter().map(|&s| model.labels[s]).collect(), rows: firsts.iter().map(|&s| row(s)).collect() }
 }
