@@ -1,0 +1,371 @@
+//! The engine of bit sets: signatures, refined round after round, only where something that they look at was parted.
+use crate::listing::{self, Counts};
+use crate::reading::load;
+use crate::tarjan::by_first_member;
+use compare::library::{Facts, Listed, Outcome, Room};
+
+const MOST: usize = 128;
+
+// A set of states, of components or of classes.
+type Bits = u128;
+
+// The set of one number each: a table is cheaper than a shift of 128 bits.
+static ONE: [Bits; MOST] = {
+    let mut one = [0; MOST];
+    let mut i = 0;
+    while i < MOST {
+        one[i] = 1 << i;
+        i += 1;
+    }
+    one
+};
+
+// The lowest number of a set that is not empty.
+#[inline(always)]
+fn lowest(set: Bits) -> usize {
+    set.trailing_zeros() as usize % MOST
+}
+
+#[inline(always)]
+fn several(set: Bits) -> bool {
+    set & set.wrapping_sub(1) != 0
+}
+
+// The numbers of a set, rising.
+#[inline(always)]
+fn each(mut set: Bits) -> impl Iterator<Item = usize> {
+    std::iter::from_fn(move || {
+        if set == 0 {
+            return None;
+        }
+        let number = lowest(set);
+        set &= set.wrapping_sub(1);
+        Some(number)
+    })
+}
+
+/// Merges the model of a file.
+pub fn merge_file(file: &[u8], mut room: Room<'_>, text: &mut [u8]) -> Outcome {
+    let mut rows = [0; MOST];
+    let loaded = load(file, &mut room, |s, row| rows[s] = row_bits(row));
+    match loaded {
+        Err(refused) => refused,
+        Ok(loaded) if loaded.states > MOST => Outcome::refused(3, 12, 0, 0),
+        Ok(loaded) => {
+            let n = loaded.states;
+            match rows[..n].iter().position(|&row| row == 0) {
+                Some(s) => Outcome::refused(3, 15, s, 0),
+                None => merge(&room.labels[..n], &rows, text),
+            }
+        }
+    }
+}
+
+// The set of rising targets: the low half ends where they come to 64.
+#[inline(always)]
+fn row_bits(row: &[u8]) -> Bits {
+    let half = |part: &[u8]| part.iter().fold(0, |bits: u64, &t| bits | 1 << (t & 63));
+    let middle = row.iter().position(|&t| t >= 64).unwrap_or(row.len());
+    let (low, high) = row.split_at(middle);
+    Bits::from(half(high)) << 64 | Bits::from(half(low))
+}
+
+/// Merges a model by well-formed tables.
+pub fn merge_tables(model: Listed<'_>, text: &mut [u8]) -> Outcome {
+    let Listed { labels, offsets, targets } = model;
+    let n = labels.len();
+    if n == 0 || n > MOST {
+        return Outcome::refused(3, if n == 0 { 11 } else { 12 }, 0, 0);
+    }
+    let mut rows = [0; MOST];
+    for (s, ends) in offsets.windows(2).enumerate() {
+        let row = &targets[ends[0] as usize..ends[1] as usize];
+        if row.is_empty() {
+            return Outcome::refused(3, 15, s, 0);
+        }
+        let highest = row.iter().fold(0, |highest, &t| highest.max(t));
+        if usize::from(highest) >= n {
+            let number = row.iter().position(|&t| usize::from(t) >= n).unwrap_or(0);
+            return Outcome::refused(3, 14, s, number as u16);
+        }
+        rows[s] = row.iter().fold(0, |bits, &t| bits | ONE[usize::from(t) % MOST]);
+    }
+    merge(labels, &rows, text)
+}
+
+fn merge(labels: &[Facts], rows: &[Bits; MOST], text: &mut [u8]) -> Outcome {
+    let n = labels.len();
+    let groups = alike(labels);
+    let found = search(rows, &groups);
+    let mut classes = Classes::of(&groups, &found);
+    let rounds = settle(&mut classes, &found);
+    let numbered = by_first_member(&classes.of_state[..n]);
+    let counts = Counts { states: n, components: found.count, labels: groups.count, rounds, classes: classes.count };
+    listing::write(counts, &numbered.part[..n], text)
+}
+
+// The groups of alike states.
+struct Groups {
+    of_state: [u8; MOST],
+    states: [Bits; MOST],
+    count: usize,
+}
+
+// A table by a hash of the label has the group of each label that was met, and 255 for none.
+fn alike(labels: &[Facts]) -> Groups {
+    let mut groups = Groups { of_state: [0; MOST], states: [0; MOST], count: 0 };
+    let mut known = [0; MOST];
+    let mut table = [u8::MAX; 256];
+    for (s, &Facts { bits }) in labels.iter().enumerate() {
+        let mut slot = (bits.wrapping_mul(0x9E37_79B9_7F4A_7C15) >> 56) as u8;
+        let group = loop {
+            let group = usize::from(table[usize::from(slot)]);
+            if group >= MOST {
+                table[usize::from(slot)] = groups.count as u8;
+                known[groups.count] = bits;
+                groups.count += 1;
+                break groups.count - 1;
+            }
+            if known[group] == bits {
+                break group;
+            }
+            slot = slot.wrapping_add(1);
+        };
+        groups.of_state[s] = group as u8;
+        groups.states[group] |= ONE[s];
+    }
+    groups
+}
+
+// A component: its states, and all that they move to.
+#[derive(Clone, Copy, Default)]
+struct Part {
+    states: Bits,
+    moves: Bits,
+}
+
+impl Part {
+    fn or(self, other: Part) -> Part {
+        Part { states: self.states | other.states, moves: self.moves | other.moves }
+    }
+}
+
+// The components of all groups. Those of one group follow each other, and each comes behind those that it moves to.
+struct Found {
+    parts: [Part; MOST],
+    of_state: [u8; MOST],
+    // the components of each group
+    of_group: [Bits; MOST],
+    count: usize,
+}
+
+impl Found {
+    fn push(&mut self, part: Part, group: usize) {
+        self.parts[self.count] = part;
+        self.of_group[group] |= ONE[self.count];
+        each(part.states).for_each(|s| self.of_state[s] = self.count as u8);
+        self.count += 1;
+    }
+}
+
+fn search(rows: &[Bits; MOST], groups: &Groups) -> Found {
+    let mut found = Found { parts: [Part::default(); MOST], of_state: [0; MOST], of_group: [0; MOST], count: 0 };
+    let mut path = [Part::default(); MOST];
+    for (group, &states) in groups.states[..groups.count].iter().enumerate() {
+        if several(states) {
+            search_group(rows, states, group, &mut path, &mut found);
+        } else {
+            found.push(Part { states, moves: rows[lowest(states)] }, group);
+        }
+    }
+    found
+}
+
+// A walk whose path is of sets: a move back into the path joins what lies between.
+fn search_group(rows: &[Bits; MOST], group: Bits, number: usize, path: &mut [Part; MOST], found: &mut Found) {
+    let mut height = 0;
+    // not met yet, and not in a component yet
+    let (mut unmet, mut open) = (group, group);
+    while unmet != 0 {
+        let first = lowest(unmet);
+        let mut top = Part { states: ONE[first], moves: rows[first] };
+        unmet &= !ONE[first];
+        loop {
+            let ahead = top.moves & open & !top.states;
+            if ahead & !unmet != 0 {
+                height -= 1;
+                top = top.or(path[height]);
+            } else if ahead != 0 {
+                let next = lowest(ahead);
+                path[height] = top;
+                height += 1;
+                top = Part { states: ONE[next], moves: rows[next] };
+                unmet &= !ONE[next];
+            } else {
+                open &= !top.states;
+                found.push(top, number);
+                if height == 0 {
+                    break;
+                }
+                height -= 1;
+                top = path[height];
+            }
+        }
+    }
+}
+
+// The classes. Those that a parting makes get new numbers, and one part keeps the old.
+struct Classes {
+    of_state: [u8; MOST],
+    states: [Bits; MOST],
+    parts: [Bits; MOST],
+    // what the states of a class move to, and perhaps more
+    moves: [Bits; MOST],
+    count: usize,
+    // the classes of several components
+    live: Bits,
+    // of each component: the classes in NEXT, and its own where LOOP is yes; one for all of a class
+    signature: [Bits; MOST],
+    // of each class: the components whose signature is other than before
+    other: [Bits; MOST],
+}
+
+impl Classes {
+    fn of(groups: &Groups, found: &Found) -> Classes {
+        let count = groups.count;
+        let mut moves = [0; MOST];
+        let mut live = 0;
+        for (c, &parts) in found.of_group[..count].iter().enumerate() {
+            if several(parts) {
+                live |= ONE[c];
+                moves[c] = each(parts).fold(0, |all, k| all | found.parts[k].moves);
+            }
+        }
+        Classes {
+            of_state: groups.of_state,
+            states: groups.states,
+            parts: found.of_group,
+            moves,
+            count,
+            live,
+            signature: [0; MOST],
+            other: [0; MOST],
+        }
+    }
+
+    // The classes of these states.
+    #[inline(always)]
+    fn classes_of(&self, mut states: Bits) -> Bits {
+        let mut classes = 0;
+        while states != 0 {
+            let c = usize::from(self.of_state[lowest(states)]) % MOST;
+            classes |= ONE[c];
+            states &= !self.states[c];
+        }
+        classes
+    }
+
+    // The signature of a component of class c, where those that it moves to inside have theirs.
+    #[inline(always)]
+    fn look(&self, found: &Found, c: usize, part: Part) -> Bits {
+        let own = self.states[c];
+        let mut all = self.classes_of(part.moves & !own);
+        if part.moves & part.states != 0 {
+            all |= ONE[c];
+        }
+        let mut inside = part.moves & own & !part.states;
+        while inside != 0 {
+            let k = usize::from(found.of_state[lowest(inside)]) % MOST;
+            all |= self.signature[k];
+            inside &= !found.parts[k].states;
+        }
+        all
+    }
+
+    // Looks again at the components of class c that see a moved state, or one whose signature is other than before.
+    // Answers those whose signature is.
+    fn look_again(&mut self, found: &Found, c: usize, moved: Bits) -> Bits {
+        let mut news = moved;
+        let mut other = 0;
+        for k in each(self.parts[c]) {
+            let part = found.parts[k];
+            if (part.moves | part.states) & news != 0 {
+                let seen = self.look(found, c, part);
+                if seen != self.signature[k] {
+                    self.signature[k] = seen;
+                    news |= part.states;
+                    other |= ONE[k];
+                }
+            }
+        }
+        other
+    }
+
+    // Parts class c by its signatures. Answers the states that moved.
+    fn part(&mut self, found: &Found, c: usize) -> Bits {
+        let mut rest = self.other[c];
+        let mut keeps = self.parts[c] & !rest;
+        let mut moved = 0;
+        while rest != 0 {
+            let signature = self.signature[lowest(rest)];
+            let like = each(rest).filter(|&k| self.signature[k] == signature).fold(0, |like, k| like | ONE[k]);
+            rest &= !like;
+            if keeps.count_ones() < like.count_ones() {
+                moved |= self.split_off(found, c, keeps);
+                keeps = like;
+            } else {
+                moved |= self.split_off(found, c, like);
+            }
+        }
+        if !several(keeps) {
+            self.live &= !ONE[c];
+        }
+        moved
+    }
+
+    // Makes a class of these components of class c. Answers their states.
+    fn split_off(&mut self, found: &Found, c: usize, parts: Bits) -> Bits {
+        if parts == 0 {
+            return 0;
+        }
+        let states = each(parts).fold(0, |states, k| states | found.parts[k].states);
+        let new = self.count;
+        each(states).for_each(|s| self.of_state[s] = new as u8);
+        self.states[new] = states;
+        self.states[c] &= !states;
+        self.parts[new] = parts;
+        self.parts[c] &= !parts;
+        self.moves[new] = self.moves[c];
+        if several(parts) {
+            self.live |= ONE[new];
+        }
+        self.count += 1;
+        states
+    }
+}
+
+// Makes rounds until one parts nothing, and answers how many.
+fn settle(classes: &mut Classes, found: &Found) -> usize {
+    let mut moved = Bits::MAX;
+    for rounds in 1.. {
+        moved = round(classes, found, moved);
+        if moved == 0 {
+            return rounds;
+        }
+    }
+    unreachable!("a round that parts nothing comes at last")
+}
+
+// One round, after a round in which these states got other classes. Answers those that get one now.
+fn round(classes: &mut Classes, found: &Found, moved: Bits) -> Bits {
+    let mut parted = 0;
+    for c in each(classes.live) {
+        if (classes.moves[c] | classes.states[c]) & moved != 0 {
+            classes.other[c] = classes.look_again(found, c, moved);
+            if classes.other[c] != 0 {
+                parted |= ONE[c];
+            }
+        }
+    }
+    each(parted).fold(0, |moved, c| moved | classes.part(found, c))
+}
