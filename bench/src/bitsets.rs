@@ -97,10 +97,11 @@ fn merge(labels: &[Facts], rows: &[Bits; MOST], text: &mut [u8]) -> Outcome {
     let n = labels.len();
     let groups = alike(labels);
     let found = search(rows, &groups);
-    let mut classes = Classes::of(&groups, &found);
+    let labels = groups.count;
+    let mut classes = Classes::of(groups, &found);
     let rounds = settle(&mut classes, &found);
     let numbered = by_first_member(&classes.of_state[..n]);
-    let counts = Counts { states: n, components: found.count, labels: groups.count, rounds, classes: classes.count };
+    let counts = Counts { states: n, components: found.count, labels, rounds, classes: classes.count };
     listing::write(counts, &numbered.part[..n], text)
 }
 
@@ -219,11 +220,7 @@ struct Classes {
     of_state: [u8; MOST],
     states: [Bits; MOST],
     parts: [Bits; MOST],
-    // what the states of a class move to, and perhaps more
-    moves: [Bits; MOST],
     count: usize,
-    // the classes of several components
-    live: Bits,
     // of each component: the classes in NEXT, and its own where LOOP is yes; one for all of a class
     signature: [Bits; MOST],
     // of each class: the components whose signature is other than before
@@ -231,26 +228,25 @@ struct Classes {
 }
 
 impl Classes {
-    fn of(groups: &Groups, found: &Found) -> Classes {
-        let count = groups.count;
-        let mut moves = [0; MOST];
-        let mut live = 0;
-        for (c, &parts) in found.of_group[..count].iter().enumerate() {
-            if several(parts) {
-                live |= ONE[c];
-                moves[c] = each(parts).fold(0, |all, k| all | found.parts[k].moves);
-            }
-        }
+    fn of(groups: Groups, found: &Found) -> Classes {
         Classes {
             of_state: groups.of_state,
             states: groups.states,
             parts: found.of_group,
-            moves,
-            count,
-            live,
+            count: groups.count,
             signature: [0; MOST],
             other: [0; MOST],
         }
+    }
+
+    // The components of classes that have several.
+    fn shared(&self) -> Bits {
+        self.parts[..self.count].iter().filter(|&&parts| several(parts)).fold(0, |all, parts| all | parts)
+    }
+
+    #[inline(always)]
+    fn class_of(&self, part: Part) -> usize {
+        usize::from(self.of_state[lowest(part.states)]) % MOST
     }
 
     // The classes of these states.
@@ -282,90 +278,111 @@ impl Classes {
         all
     }
 
-    // Looks again at the components of class c that see a moved state, or one whose signature is other than before.
+    // Looks again at these components of class c, and at those that see one whose signature is other than before.
     // Answers those whose signature is.
-    fn look_again(&mut self, found: &Found, c: usize, moved: Bits) -> Bits {
-        let mut news = moved;
+    fn look_again(&mut self, found: &Found, movers: &[Bits; MOST], c: usize, these: Bits) -> Bits {
+        let mut left = these;
         let mut other = 0;
-        for k in each(self.parts[c]) {
-            let part = found.parts[k];
-            if (part.moves | part.states) & news != 0 {
-                let seen = self.look(found, c, part);
-                if seen != self.signature[k] {
-                    self.signature[k] = seen;
-                    news |= part.states;
-                    other |= ONE[k];
-                }
+        while left != 0 {
+            let k = lowest(left);
+            let seen = self.look(found, c, found.parts[k]);
+            if seen != self.signature[k] {
+                self.signature[k] = seen;
+                other |= ONE[k];
+                left |= movers[k] & self.parts[c];
             }
+            left &= !ONE[k];
         }
         other
     }
 
-    // Parts class c by its signatures. Answers the states that moved.
+    // Parts class c by its signatures. Answers the components that moved.
     fn part(&mut self, found: &Found, c: usize) -> Bits {
         let mut rest = self.other[c];
         let mut keeps = self.parts[c] & !rest;
         let mut moved = 0;
         while rest != 0 {
             let signature = self.signature[lowest(rest)];
-            let like = each(rest).filter(|&k| self.signature[k] == signature).fold(0, |like, k| like | ONE[k]);
-            rest &= !like;
-            if keeps.count_ones() < like.count_ones() {
-                moved |= self.split_off(found, c, keeps);
-                keeps = like;
-            } else {
-                moved |= self.split_off(found, c, like);
+            let mut like = rest;
+            for k in each(rest) {
+                if self.signature[k] != signature {
+                    like &= !ONE[k];
+                }
             }
-        }
-        if !several(keeps) {
-            self.live &= !ONE[c];
+            rest &= !like;
+            let gone = if keeps.count_ones() < like.count_ones() { std::mem::replace(&mut keeps, like) } else { like };
+            if gone != 0 {
+                self.split_off(found, c, gone);
+                moved |= gone;
+            }
         }
         moved
     }
 
-    // Makes a class of these components of class c. Answers their states.
-    fn split_off(&mut self, found: &Found, c: usize, parts: Bits) -> Bits {
-        if parts == 0 {
-            return 0;
+    // Makes a class of these components of class c.
+    fn split_off(&mut self, found: &Found, c: usize, parts: Bits) {
+        let new = self.count % MOST;
+        let mut states = 0;
+        for k in each(parts) {
+            states |= found.parts[k].states;
         }
-        let states = each(parts).fold(0, |states, k| states | found.parts[k].states);
-        let new = self.count;
-        each(states).for_each(|s| self.of_state[s] = new as u8);
+        for s in each(states) {
+            self.of_state[s] = new as u8;
+        }
         self.states[new] = states;
         self.states[c] &= !states;
         self.parts[new] = parts;
         self.parts[c] &= !parts;
-        self.moves[new] = self.moves[c];
-        if several(parts) {
-            self.live |= ONE[new];
-        }
         self.count += 1;
-        states
     }
 }
 
 // Makes rounds until one parts nothing, and answers how many.
 fn settle(classes: &mut Classes, found: &Found) -> usize {
-    let mut moved = Bits::MAX;
+    let mut movers = [0; MOST];
+    let mut shared = classes.shared();
+    let mut look = shared;
     for rounds in 1.. {
-        moved = round(classes, found, moved);
+        let moved = round(classes, found, &movers, look);
         if moved == 0 {
             return rounds;
         }
+        if rounds == 1 {
+            shared = classes.shared();
+            movers_to(&mut movers, found, shared);
+        }
+        look = shared & each(moved).fold(moved, |look, k| look | movers[k]);
     }
     unreachable!("a round that parts nothing comes at last")
 }
 
-// One round, after a round in which these states got other classes. Answers those that get one now.
-fn round(classes: &mut Classes, found: &Found, moved: Bits) -> Bits {
+// For each component, which of these move to it.
+fn movers_to(movers: &mut [Bits; MOST], found: &Found, these: Bits) {
+    for k in each(these) {
+        let mut ahead = found.parts[k].moves & !found.parts[k].states;
+        while ahead != 0 {
+            let l = usize::from(found.of_state[lowest(ahead)]) % MOST;
+            movers[l] |= ONE[k];
+            ahead &= !found.parts[l].states;
+        }
+    }
+}
+
+// One round, in which no signature is other than before but of these components and what sees them.
+// Answers the components that get other classes.
+fn round(classes: &mut Classes, found: &Found, movers: &[Bits; MOST], look: Bits) -> Bits {
+    let mut left = look;
     let mut parted = 0;
-    for c in each(classes.live) {
-        if (classes.moves[c] | classes.states[c]) & moved != 0 {
-            classes.other[c] = classes.look_again(found, c, moved);
+    while left != 0 {
+        let c = classes.class_of(found.parts[lowest(left)]);
+        let own = classes.parts[c];
+        if several(own) {
+            classes.other[c] = classes.look_again(found, movers, c, left & own);
             if classes.other[c] != 0 {
                 parted |= ONE[c];
             }
         }
+        left &= !own;
     }
     each(parted).fold(0, |moved, c| moved | classes.part(found, c))
 }

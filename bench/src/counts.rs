@@ -1,14 +1,24 @@
 //! The counts of instructions, from callgrind.
+use std::collections::HashMap;
 use std::error::Error;
-use std::path::{Path, PathBuf};
+use std::path::PathBuf;
 use std::process::{Command, Stdio};
 use std::{env, fs};
 
 type Tried<T> = Result<T, Box<dyn Error>>;
 
+// The C library fills and copies long memory by one instruction that callgrind counts once for each byte.
+const NO_STRING_INSTRUCTIONS: &str =
+    "glibc.cpu.x86_rep_stosb_threshold=100000000:glibc.cpu.x86_rep_movsb_threshold=100000000";
+
 /// The dumps of one run, one for each measured job.
 pub struct Dumps {
     folder: PathBuf,
+}
+
+/// What a job took: the instructions of each function itself, the most first.
+pub struct Taken {
+    pub functions: Vec<(String, u64)>,
 }
 
 impl Dumps {
@@ -25,6 +35,7 @@ impl Dumps {
             .arg(format!("--callgrind-out-file={}", folder.join("dump").display()))
             .arg(&program)
             .arg("jobs")
+            .env("GLIBC_TUNABLES", NO_STRING_INSTRUCTIONS)
             .stderr(Stdio::null())
             .status()?;
         if status.success() {
@@ -34,31 +45,47 @@ impl Dumps {
         }
     }
 
-    fn dump(&self, job: usize) -> PathBuf {
-        self.folder.join(format!("dump.{}", job + 1))
-    }
-
-    /// How many instructions the job took, all functions that it called included.
-    pub fn instructions(&self, job: usize) -> Tried<u64> {
-        let path = self.dump(job);
+    /// What a job took, counted from 0.
+    pub fn taken(&self, job: usize) -> Tried<Taken> {
+        let path = self.folder.join(format!("dump.{}", job + 1));
         let text = fs::read_to_string(&path).map_err(|e| format!("{}: {e}", path.display()))?;
-        let totals = text.lines().find_map(|line| line.strip_prefix("totals: ")).ok_or("a dump without totals")?;
-        Ok(totals.trim().parse()?)
-    }
-
-    /// The ten functions that took most instructions themselves, with what they took.
-    pub fn profile(&self, job: usize) -> Tried<Vec<String>> {
-        let output = Command::new("callgrind_annotate").arg("--auto=no").arg(self.dump(job)).output()?;
-        let text = String::from_utf8(output.stdout)?;
-        let lines = text.lines().skip_while(|line| !line.contains("file:function")).skip(2);
-        Ok(lines.take(10).map(without_path).collect())
+        let mut functions: Vec<(String, u64)> = by_function(&text).into_iter().collect();
+        functions.sort_by(|one, other| other.1.cmp(&one.1).then_with(|| one.0.cmp(&other.0)));
+        Ok(Taken { functions })
     }
 }
 
-// A line of a profile with the name of the function only.
-fn without_path(line: &str) -> String {
-    let (counts, function) = line.split_at(line.find(')').map_or(0, |end| end + 1));
-    let name = function.rsplit_once(" [").map_or(function, |(name, _)| name).trim();
-    let name = name.rsplit_once(Path::new("/").to_str().unwrap_or("/")).map_or(name, |(_, name)| name);
-    format!("{counts} {name}")
+impl Taken {
+    pub fn instructions(&self) -> u64 {
+        self.functions.iter().map(|(_, count)| count).sum()
+    }
+
+    /// The ten functions that took the most.
+    pub fn most(&self) -> impl Iterator<Item = &(String, u64)> {
+        self.functions.iter().take(10)
+    }
+}
+
+// Sums a dump's counts. A function stands in a line of its own before its counts, by a number that the first line with
+// it gives a name to; the count behind a line of calls is of the function that was called, which has it already.
+fn by_function(dump: &str) -> HashMap<String, u64> {
+    let mut names: HashMap<&str, &str> = HashMap::new();
+    let mut counts: HashMap<&str, u64> = HashMap::new();
+    let (mut current, mut of_call) = ("", false);
+    for line in dump.lines() {
+        let function = line.strip_prefix("fn=");
+        if let Some(named) = function.or(line.strip_prefix("cfn=")) {
+            let (number, name) = named.split_once(' ').unwrap_or((named, ""));
+            names.entry(number).or_insert(name);
+            current = if function.is_some() { number } else { current };
+        } else if line.starts_with("calls=") {
+            of_call = true;
+        } else if line.starts_with(|c: char| c.is_ascii_digit() || "+-*".contains(c)) {
+            let count = line.split(' ').nth(1).and_then(|count| count.parse::<u64>().ok());
+            if !std::mem::take(&mut of_call) {
+                *counts.entry(current).or_default() += count.unwrap_or(0);
+            }
+        }
+    }
+    counts.into_iter().map(|(number, count)| (names.get(number).unwrap_or(&number).to_string(), count)).collect()
 }

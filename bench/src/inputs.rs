@@ -67,7 +67,12 @@ fn distinct(dice: &mut Dice, count: usize, size: usize) -> Vec<u16> {
 fn mixed() -> Named {
     let mut dice = Dice::new(SEED);
     let files = (0..10_000).map(|_| {
-        let size = generate::size(&mut dice);
+        let size = match dice.below(40) {
+            0 => dice.within(100, 128),
+            1..=3 => dice.within(20, 100),
+            4..=16 => dice.within(6, 20),
+            _ => dice.within(1, 6),
+        };
         generate::model(&mut dice, size, 50).file()
     });
     Named { name: "10,000 mixed files".into(), input: Input::Files(files.collect()), tables: None }

@@ -83,13 +83,13 @@ pub fn run_all(inputs: &[Named]) {
     let mut memory = Memory::new();
     for Named { input, tables, .. } in inputs {
         for engine in ENGINES {
-            measured_job(&mut Job(&mut || _ = black_box(memory.run(engine, input)))));
+            measured_job(&mut Job(&mut || _ = black_box(memory.run(engine, input))));
         }
         if let Some(tables) = tables {
             let mut part = [0; 128];
             let model = tables.listed();
-            measured_job(&mut Job(&mut || _ = black_box(library::components(model, &mut part)))));
-            measured_job(&mut Job(&mut || _ = black_box(tarjan::components(model, &mut part)))));
+            measured_job(&mut Job(&mut || _ = black_box(library::components(model, &mut part))));
+            measured_job(&mut Job(&mut || _ = black_box(tarjan::components(model, &mut part))));
         }
     }
 }

@@ -1,49 +1,55 @@
 //! The table of counts and ratios.
-use crate::counts::Dumps;
+use crate::counts::{Dumps, Taken};
 use crate::inputs::Named;
 use crate::jobs::{assert_equal, ENGINES};
 use std::error::Error;
 
-/// Measures and prints.
+/// Measures and prints, with the functions of the library that took the most where `profiles` says so.
 pub fn print(inputs: &[Named], profiles: bool) -> Result<(), Box<dyn Error>> {
     assert_equal(inputs);
     let dumps = Dumps::make()?;
     let mut jobs = 0..;
-    let mut next = |count: usize| jobs.by_ref().take(count).collect::<Vec<usize>>();
     let mut searches = Vec::new();
-    println!("instructions, and the library's in parts of each engine's");
-    println!(
-        "{:<32} {:>13} {:>13} {:>6} {:>13} {:>6}",
-        "whole job", "library", "(a) matrices", "ratio", "(b) bit sets", "ratio"
-    );
+    let heads = ["library", "matrices", "ratio", "bit sets", "ratio"];
+    println!("{:<32} {:>13} {:>13} {:>6} {:>13} {:>6}", "whole job", heads[0], heads[1], heads[2], heads[3], heads[4]);
     for named in inputs {
-        let whole = next(ENGINES.len());
-        let [library, matrices, bitsets] = [0, 1, 2].map(|i| dumps.instructions(whole[i]));
-        let (library, matrices, bitsets) = (library?, matrices?, bitsets?);
-        println!(
-            "{:<32} {library:>13} {matrices:>13} {:>6.2} {bitsets:>13} {:>6.2}",
-            named.name,
-            ratio(library, matrices),
-            ratio(library, bitsets)
-        );
+        let taken = take(&dumps, &mut jobs, ENGINES.len())?;
+        line(&named.name, &taken);
         if profiles {
-            dumps.profile(whole[0])?.iter().for_each(|line| println!("    {line}"));
+            profile(&taken[0]);
         }
         if named.tables.is_some() {
-            searches.push((&named.name, next(2)));
+            searches.push((&named.name, take(&dumps, &mut jobs, 2)?));
         }
     }
     println!("\n{:<32} {:>13} {:>13} {:>6}", "components", "library", "textbook", "ratio");
-    for (name, pair) in searches {
-        let (library, textbook) = (dumps.instructions(pair[0])?, dumps.instructions(pair[1])?);
-        println!("{name:<32} {library:>13} {textbook:>13} {:>6.2}", ratio(library, textbook));
+    for (name, taken) in searches {
+        line(name, &taken);
         if profiles {
-            dumps.profile(pair[0])?.iter().for_each(|line| println!("    {line}"));
+            profile(&taken[0]);
         }
     }
     Ok(())
 }
 
-fn ratio(one: u64, other: u64) -> f64 {
-    one as f64 / other as f64
+// What the next jobs took.
+fn take(dumps: &Dumps, jobs: &mut impl Iterator<Item = usize>, count: usize) -> Result<Vec<Taken>, Box<dyn Error>> {
+    jobs.take(count).map(|job| dumps.taken(job)).collect()
+}
+
+// The library's count, and each engine's with the library's in parts of it.
+fn line(name: &str, taken: &[Taken]) {
+    let counts: Vec<u64> = taken.iter().map(Taken::instructions).collect();
+    print!("{name:<32} {:>13}", counts[0]);
+    for engine in &counts[1..] {
+        print!(" {engine:>13} {:>6.2}", counts[0] as f64 / *engine as f64);
+    }
+    println!();
+}
+
+fn profile(taken: &Taken) {
+    let all = taken.instructions() as f64;
+    for (name, count) in taken.most() {
+        println!("    {count:>13} {:>5.1} % {name}", 100.0 * *count as f64 / all);
+    }
 }
