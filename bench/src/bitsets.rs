@@ -1,4 +1,5 @@
-//! The engine of bit sets: signatures, refined round after round, only where something that they look at was parted.
+//! Two engines of bit sets. Both refine signatures round after round: one all of them, and the other only those that see
+//! something which was parted in the round before.
 use crate::listing::{self, Counts};
 use crate::reading::load;
 use crate::tarjan::by_first_member;
@@ -44,8 +45,11 @@ fn each(mut set: Bits) -> impl Iterator<Item = usize> {
     })
 }
 
+/// How the rounds are made: which answers how many there were.
+pub type Rounds = fn(&mut Classes, &Found) -> usize;
+
 /// Merges the model of a file.
-pub fn merge_file(file: &[u8], mut room: Room<'_>, text: &mut [u8]) -> Outcome {
+pub fn merge_file(rounds: Rounds, file: &[u8], mut room: Room<'_>, text: &mut [u8]) -> Outcome {
     let mut rows = [0; MOST];
     let loaded = load(file, &mut room, |s, row| rows[s] = row_bits(row));
     match loaded {
@@ -55,7 +59,7 @@ pub fn merge_file(file: &[u8], mut room: Room<'_>, text: &mut [u8]) -> Outcome {
             let n = loaded.states;
             match rows[..n].iter().position(|&row| row == 0) {
                 Some(s) => Outcome::refused(3, 15, s, 0),
-                None => merge(&room.labels[..n], &rows, text),
+                None => merge(rounds, &room.labels[..n], &rows, text),
             }
         }
     }
@@ -71,7 +75,7 @@ fn row_bits(row: &[u8]) -> Bits {
 }
 
 /// Merges a model by well-formed tables.
-pub fn merge_tables(model: Listed<'_>, text: &mut [u8]) -> Outcome {
+pub fn merge_tables(rounds: Rounds, model: Listed<'_>, text: &mut [u8]) -> Outcome {
     let Listed { labels, offsets, targets } = model;
     let n = labels.len();
     if n == 0 || n > MOST {
@@ -90,16 +94,16 @@ pub fn merge_tables(model: Listed<'_>, text: &mut [u8]) -> Outcome {
         }
         rows[s] = row.iter().fold(0, |bits, &t| bits | ONE[usize::from(t) % MOST]);
     }
-    merge(labels, &rows, text)
+    merge(rounds, labels, &rows, text)
 }
 
-fn merge(labels: &[Facts], rows: &[Bits; MOST], text: &mut [u8]) -> Outcome {
+fn merge(rounds: Rounds, labels: &[Facts], rows: &[Bits; MOST], text: &mut [u8]) -> Outcome {
     let n = labels.len();
     let groups = alike(labels);
     let found = search(rows, &groups);
     let labels = groups.count;
     let mut classes = Classes::of(groups, &found);
-    let rounds = settle(&mut classes, &found);
+    let rounds = rounds(&mut classes, &found);
     let numbered = by_first_member(&classes.of_state[..n]);
     let counts = Counts { states: n, components: found.count, labels, rounds, classes: classes.count };
     listing::write(counts, &numbered.part[..n], text)
@@ -151,8 +155,8 @@ impl Part {
     }
 }
 
-// The components of all groups. Those of one group follow each other, and each comes behind those that it moves to.
-struct Found {
+/// The components of all groups. Those of one group follow each other, and each comes behind those that it moves to.
+pub struct Found {
     parts: [Part; MOST],
     of_state: [u8; MOST],
     // the components of each group
@@ -215,8 +219,8 @@ fn search_group(rows: &[Bits; MOST], group: Bits, number: usize, path: &mut [Par
     }
 }
 
-// The classes. Those that a parting makes get new numbers, and one part keeps the old.
-struct Classes {
+/// The classes. Those that a parting makes get new numbers, and one part keeps the old.
+pub struct Classes {
     of_state: [u8; MOST],
     states: [Bits; MOST],
     parts: [Bits; MOST],
@@ -337,8 +341,8 @@ impl Classes {
     }
 }
 
-// Makes rounds until one parts nothing, and answers how many.
-fn settle(classes: &mut Classes, found: &Found) -> usize {
+/// Makes rounds until one parts nothing. Each looks only where a signature may be other than before.
+pub fn where_parted(classes: &mut Classes, found: &Found) -> usize {
     let mut movers = [0; MOST];
     let mut shared = classes.shared();
     let mut look = shared;
@@ -352,6 +356,18 @@ fn settle(classes: &mut Classes, found: &Found) -> usize {
             movers_to(&mut movers, found, shared);
         }
         look = shared & each(moved).fold(moved, |look, k| look | movers[k]);
+    }
+    unreachable!("a round that parts nothing comes at last")
+}
+
+/// Makes rounds until one parts nothing. Each looks at all components whose class has several.
+pub fn all_over(classes: &mut Classes, found: &Found) -> usize {
+    let movers = [0; MOST];
+    for rounds in 1.. {
+        let look = classes.shared();
+        if round(classes, found, &movers, look) == 0 {
+            return rounds;
+        }
     }
     unreachable!("a round that parts nothing comes at last")
 }

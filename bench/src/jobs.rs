@@ -11,10 +11,11 @@ use std::hint::black_box;
 pub enum Engine {
     Library,
     Matrices,
+    Rounds,
     Bitsets,
 }
 
-pub const ENGINES: [Engine; 3] = [Engine::Library, Engine::Matrices, Engine::Bitsets];
+pub const ENGINES: [Engine; 4] = [Engine::Library, Engine::Matrices, Engine::Rounds, Engine::Bitsets];
 
 /// The memory that is lent: made and filled before anything is measured, and not cleared between the calls.
 struct Memory {
@@ -48,7 +49,8 @@ impl Memory {
         match engine {
             Engine::Library => library::merge_file(file, room, &mut self.text),
             Engine::Matrices => self.work.merge_file(file, room, &mut self.text),
-            Engine::Bitsets => bitsets::merge_file(file, room, &mut self.text),
+            Engine::Rounds => bitsets::merge_file(bitsets::all_over, file, room, &mut self.text),
+            Engine::Bitsets => bitsets::merge_file(bitsets::where_parted, file, room, &mut self.text),
         }
     }
 
@@ -60,7 +62,8 @@ impl Memory {
                 match engine {
                     Engine::Library => library::merge_tables(model, text),
                     Engine::Matrices => self.work.merge_tables(model, text),
-                    Engine::Bitsets => bitsets::merge_tables(model, text),
+                    Engine::Rounds => bitsets::merge_tables(bitsets::all_over, model, text),
+                    Engine::Bitsets => bitsets::merge_tables(bitsets::where_parted, model, text),
                 }
             }
         }

@@ -30,6 +30,10 @@ pub struct Workspace {
     order: Vec<u8>,
 }
 
+fn lists() -> Vec<Vec<u8>> {
+    (0..MOST).map(|_| Vec::with_capacity(MOST)).collect()
+}
+
 impl Workspace {
     pub fn new() -> Box<Workspace> {
         Box::new(Workspace {
@@ -43,8 +47,8 @@ impl Workspace {
             reach: [[0; MOST]; MOST],
             before: [[0; MOST]; MOST],
             witnesses: [[0; MOST]; MOST],
-            inside: vec![Vec::with_capacity(MOST); MOST],
-            outside: vec![Vec::with_capacity(MOST); MOST],
+            inside: lists(),
+            outside: lists(),
             looks: Box::new([[0; COLUMNS]; MOST]),
             order: Vec::with_capacity(MOST),
         })
@@ -183,10 +187,11 @@ impl Workspace {
             if marked[i] {
                 continue;
             }
-            for p in 0..k {
-                if self.related[i][p] == 1 {
-                    marked[p] = true;
-                    self.class[p] = self.classes as u8;
+            let row = self.related[i][..k].iter().zip(&mut marked).zip(&mut self.class);
+            for ((&related, marked), class) in row {
+                if related == 1 {
+                    *marked = true;
+                    *class = self.classes as u8;
                 }
             }
             self.classes += 1;

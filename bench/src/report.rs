@@ -10,8 +10,7 @@ pub fn print(inputs: &[Named], profiles: bool) -> Result<(), Box<dyn Error>> {
     let dumps = Dumps::make()?;
     let mut jobs = 0..;
     let mut searches = Vec::new();
-    let heads = ["library", "matrices", "ratio", "bit sets", "ratio"];
-    println!("{:<32} {:>13} {:>13} {:>6} {:>13} {:>6}", "whole job", heads[0], heads[1], heads[2], heads[3], heads[4]);
+    head("whole job", &["matrices", "all rounds", "bit sets"]);
     for named in inputs {
         let taken = take(&dumps, &mut jobs, ENGINES.len())?;
         line(&named.name, &taken);
@@ -22,7 +21,8 @@ pub fn print(inputs: &[Named], profiles: bool) -> Result<(), Box<dyn Error>> {
             searches.push((&named.name, take(&dumps, &mut jobs, 2)?));
         }
     }
-    println!("\n{:<32} {:>13} {:>13} {:>6}", "components", "library", "textbook", "ratio");
+    println!();
+    head("components", &["textbook"]);
     for (name, taken) in searches {
         line(name, &taken);
         if profiles {
@@ -35,6 +35,12 @@ pub fn print(inputs: &[Named], profiles: bool) -> Result<(), Box<dyn Error>> {
 // What the next jobs took.
 fn take(dumps: &Dumps, jobs: &mut impl Iterator<Item = usize>, count: usize) -> Result<Vec<Taken>, Box<dyn Error>> {
     jobs.take(count).map(|job| dumps.taken(job)).collect()
+}
+
+fn head(what: &str, engines: &[&str]) {
+    print!("{what:<32} {:>13}", "library");
+    engines.iter().for_each(|engine| print!(" {engine:>13} {:>6}", "ratio"));
+    println!();
 }
 
 // The library's count, and each engine's with the library's in parts of it.

@@ -36,7 +36,7 @@ fn row(dice: &mut Dice, style: usize, size: usize, s: usize) -> Vec<u16> {
         2 => vec![s.saturating_sub(1)],
         3 => (0..dice.within(1, 2)).map(|_| s + dice.below(size - s)).collect(),
         4 if size <= 128 => (0..size).filter(|&t| t == s || dice.one_in(2)).collect(),
-        5 if size <= 24 => (0..size).collect(),
+        5 if size <= 24 || (size <= 128 && s.is_multiple_of(8)) => (0..size).collect(),
         _ => [s, s + dice.below(size - s)].to_vec(),
     };
     let mut row: Vec<u16> = targets.into_iter().map(|t| t as u16).collect();
