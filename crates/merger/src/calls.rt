@@ -1,6 +1,7 @@
 //! The calls of an analysis.
-ghost use Rattle.std.specs.Prelude.{◌≡◌, ℕ, suc, ◌+◌, true, false};
+ghost use Rattle.std.specs.Prelude.{◌≡◌, ℕ, suc, ◌+◌, true, false, MatchResult};
 ghost use Rattle.kripke.specs.Models.{Kripke};
+ghost use Rattle.merger.specs.declared.answers.Refusal.TheVariants.{NothingOpened};
 ghost use Rattle.merger.specs.Calls.{Analysed, OpenAnswer, RoundAnswer, RunAnswer, ClassAnswer, TogetherAnswer, ReducedAnswer, SummaryAnswer};
 
 use crate::advance::advance;
@@ -71,6 +72,13 @@ impl Analysis {
         })
     }
 
+    // Refuses where nothing is opened.
+    fn check_opened(&self) -> Result<(), Refusal>
+        ensures { MatchResult result (λ _. self.now.opened ≡ true) (λ e. (self.now.opened ≡ false) × (e ≡ NothingOpened)) }
+    {
+        self.opened.then_some(()).ok_or(Refusal::NothingOpened)
+    }
+
     // One more round of what is opened and not settled.
     fn step(&mut self)
         requires { (self.old.opened ≡ true) × (self.old.rounds.settled ≡ false) }
@@ -84,9 +92,7 @@ impl Analysis {
     pub fn round(&mut self) -> Result<Made, Refusal>
         ensures { RoundAnswer self.old self.new result }
     {
-        if !self.opened {
-            return Err(Refusal::NothingOpened);
-        }
+        self.check_opened()?;
         if self.rounds.settled {
             return Err(Refusal::Settled);
         }
@@ -102,9 +108,7 @@ impl Analysis {
     pub fn run(&mut self, budget: usize) -> Result<Ran, Refusal>
         ensures { RunAnswer self.old self.new budget result }
     {
-        if !self.opened {
-            return Err(Refusal::NothingOpened);
-        }
+        self.check_opened()?;
         let mut rounds = 0;
         while rounds < budget && !self.rounds.settled {
             self.step();
@@ -120,9 +124,7 @@ impl Analysis {
     pub fn summary(&self) -> Result<Summary, Refusal>
         ensures { SummaryAnswer self.now result }
     {
-        if !self.opened {
-            return Err(Refusal::NothingOpened);
-        }
+        self.check_opened()?;
         Ok(Summary {
             states: self.found.states,
             components: self.found.components,
@@ -137,9 +139,7 @@ impl Analysis {
     pub fn class(&self, s: u16) -> Result<u16, Refusal>
         ensures { ClassAnswer self.now s result }
     {
-        if !self.opened {
-            return Err(Refusal::NothingOpened);
-        }
+        self.check_opened()?;
         if s >= self.found.states {
             return Err(Refusal::NoState(s));
         }
@@ -160,9 +160,7 @@ impl Analysis {
     pub fn reduced(&self, out: &mut Reduced) -> Result<(), Refusal>
         ensures { ReducedAnswer self.now out.old out.new result }
     {
-        if !self.opened {
-            return Err(Refusal::NothingOpened);
-        }
+        self.check_opened()?;
         if !self.rounds.settled {
             return Err(Refusal::NotSettled);
         }

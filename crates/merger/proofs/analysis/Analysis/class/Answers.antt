@@ -12,7 +12,7 @@ pub returns-then-s-self : goal.returns-then-s-self
 returns-then-s-self c =
     let a : Analysis = c.args.self.now in
     record {
-      shut = λ e. absurd (both_ways _ e c.if-not-self.false);
+      shut = λ e. absurd (both_ways _ e c.in_ok-check_opened.ensures);
       told = λ M r A.
           let n = A.tabled.surveyed.states in
           let past = c.if-s-self.true in
@@ -23,19 +23,19 @@ returns-then-s-self c =
 
 pub bounds-self-s : goal.bounds-self-s
 bounds-self-s c =
-    let B = meant_bounded _ _ (c.args.self.now.meant c.if-not-self.false) in
+    let B = meant_bounded _ _ (c.args.self.now.meant c.in_ok-check_opened.ensures) in
     let low = c.if-s-self.false in omega (arith, B.wide)
 
 pub class_of-requires : goal.class_of-requires
 class_of-requires c =
-    let B = meant_bounded _ _ (c.args.self.now.meant c.if-not-self.false) in
+    let B = meant_bounded _ _ (c.args.self.now.meant c.in_ok-check_opened.ensures) in
     omega (arith, B.parts c.args.s c.if-s-self.false, B.items)
 
 pub overflow_cast-result : goal.overflow_cast-result
 overflow_cast-result c =
     let a : Analysis = c.args.self.now in
     let P : Partition = a.rounds.partition in
-    let B = meant_bounded _ _ (a.meant c.if-not-self.false) in
+    let B = meant_bounded _ _ (a.meant c.in_ok-check_opened.ensures) in
     let low = P.low (part a.found c.args.s) (omega (arith, B.parts c.args.s c.if-s-self.false, B.items)) in
     let most = P.most in
     let few = P.few in
@@ -47,7 +47,7 @@ returns c =
     let a : Analysis = c.args.self.now in
     let s = c.args.s in
     record {
-      shut = λ e. absurd (both_ways _ e c.if-not-self.false);
+      shut = λ e. absurd (both_ways _ e c.in_ok-check_opened.ensures);
       told = λ M r A.
           let n = A.tabled.surveyed.states in
           let low = c.if-s-self.false in

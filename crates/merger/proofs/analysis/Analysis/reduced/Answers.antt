@@ -7,21 +7,21 @@ use Rattle.merger.proofs.Promising.{tabled_settled}
 use Rattle.merger.proofs.Drawing.{outlook_low, drawn_fills}
 use Rattle.merger.proofs.analysis.Analysis.reduced.Goals as goal
 
-pub returns-then-not-self-2 : goal.returns-then-not-self-2
-returns-then-not-self-2 c =
+pub returns-then-not-self : goal.returns-then-not-self
+returns-then-not-self c =
     let a : Analysis = c.args.self.now in
     record {
-      shut = λ e. absurd (both_ways _ e c.if-not-self.false);
+      shut = λ e. absurd (both_ways _ e c.in_ok-check_opened.ensures);
       told = λ M r A. record {
         going = λ n. ((refl, refl), refl);
-        settled = λ z. absurd (both_ways _ c.if-not-self-2.true ((tabled_settled M r a.found a.rounds A.tabled).1 z));
+        settled = λ z. absurd (both_ways _ c.if-not-self.true ((tabled_settled M r a.found a.rounds A.tabled).1 z));
       };
       refused = refl;
     }
 
 pub outlooks-rows-requires : goal.outlooks-rows-requires
 outlooks-rows-requires c =
-    let B = meant_bounded _ _ (c.args.self.now.meant c.if-not-self.false) in
+    let B = meant_bounded _ _ (c.args.self.now.meant c.in_ok-check_opened.ensures) in
     let P : Partition = c.args.self.now.rounds.partition in
     let few = P.few in
     let items = B.items in
@@ -34,7 +34,7 @@ outlooks-rows-requires c =
 
 pub reduce-requires : goal.reduce-requires
 reduce-requires c =
-    let B = meant_bounded _ _ (c.args.self.now.meant c.if-not-self.false) in
+    let B = meant_bounded _ _ (c.args.self.now.meant c.in_ok-check_opened.ensures) in
     let P : Partition = c.args.self.now.rounds.partition in
     let few = P.few in
     let items = B.items in
@@ -46,15 +46,15 @@ reduce-requires c =
 pub returns : goal.returns
 returns c =
     let a : Analysis = c.args.self.now in
-    let B = meant_bounded _ _ (a.meant c.if-not-self.false) in
+    let B = meant_bounded _ _ (a.meant c.in_ok-check_opened.ensures) in
     let P : Partition = a.rounds.partition in
     let few = P.few in
     let items = B.items in
     record {
-      shut = λ e. absurd (both_ways _ e c.if-not-self.false);
+      shut = λ e. absurd (both_ways _ e c.in_ok-check_opened.ensures);
       told = λ M r A. record {
-        going = λ n. absurd (n ((tabled_settled M r a.found a.rounds A.tabled).0 c.if-not-self-2.false));
-        settled = λ z. drawn_fills M r a.found a.rounds A.tabled c.if-not-self-2.false c.outlooks-rows.result
+        going = λ n. absurd (n ((tabled_settled M r a.found a.rounds A.tabled).0 c.if-not-self.false));
+        settled = λ z. drawn_fills M r a.found a.rounds A.tabled c.if-not-self.false c.outlooks-rows.result
             (λ k h. c.outlooks-rows.ensures k ((c.below.ensures k).1 (h, omega arith))) c.reduce.result c.reduce.ensures;
       };
       refused = tt;

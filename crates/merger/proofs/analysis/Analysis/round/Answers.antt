@@ -10,7 +10,7 @@ pub returns-then-self : goal.returns-then-self
 returns-then-self c =
     let a : Analysis = c.args.self.now in
     record {
-      shut = λ e. absurd (both_ways _ e c.if-not-self.false);
+      shut = λ e. absurd (both_ways _ e c.in_ok-check_opened.ensures);
       told = λ M r A. record {
         settled = λ z. (refl, refl);
         made = λ going. absurd (going ((tabled_settled M r a.found a.rounds A.tabled).0 c.if-self.true));
@@ -24,7 +24,7 @@ returns c =
     let a : Analysis = c.args.self.now in
     let b : Analysis = c.step.new.self in
     record {
-      shut = λ e. absurd (both_ways _ e c.if-not-self.false);
+      shut = λ e. absurd (both_ways _ e c.in_ok-check_opened.ensures);
       told = λ M r A.
           let B = (c.step.ensures.more M r A).tabled in
           record {

@@ -5,13 +5,13 @@ use Rattle.merger.specs.Calls.{Analysed}
 use Rattle.merger.proofs.Promising.{run_count, tabled_settled}
 use Rattle.merger.proofs.Calling.{continues_run}
 use Rattle.merger.proofs.analysis.Analysis.run.Goals as goal
-use Rattle.merger.proofs.analysis.Analysis.run.Goals.{then-loop-rounds-test+else-not-self-2, else-loop-rounds-test}
+use Rattle.merger.proofs.analysis.Analysis.run.Goals.{then-loop-rounds-test+else-not-self, else-loop-rounds-test}
 
 pub loop-rounds-init : goal.loop-rounds-init
-loop-rounds-init c = (c.if-not-self.false, omega arith, λ M r A. let e : r ≡ r + 0 = omega arith in subst (λ q. Analysed M q c.args.self.now) e A)
+loop-rounds-init c = (c.in_ok-check_opened.ensures, omega arith, λ M r A. let e : r ≡ r + 0 = omega arith in subst (λ q. Analysed M q c.args.self.now) e A)
 
 pub step-requires : goal.step-requires
-step-requires c = (c.loop-rounds.invariant.0, c.if-not-self-2.true)
+step-requires c = (c.loop-rounds.invariant.0, c.if-not-self.true)
 
 pub loop-rounds-preserved : goal.loop-rounds-preserved
 loop-rounds-preserved c = (
@@ -29,13 +29,13 @@ returns c =
     let budget = c.args.budget in
     let i = c.loop-rounds.invariant in
     let up : k < budget → c.loop-rounds.self.rounds.settled ≡ true = elim c.loop-rounds-test.branch [
-      | then-loop-rounds-test+else-not-self-2 w ↦ λ h. w.if-not-self-2.false
+      | then-loop-rounds-test+else-not-self w ↦ λ h. w.if-not-self.false
       | else-loop-rounds-test w ↦ λ h. let o = w.loop-rounds-test.false in absurd (omega arith)
     ] in
     let a : Analysis = c.args.self.now in
     let b : Analysis = c.loop-rounds.self in
     record {
-      shut = λ e. absurd (both_ways _ e c.if-not-self.false);
+      shut = λ e. absurd (both_ways _ e c.in_ok-check_opened.ensures);
       told = λ M r A.
           let B = (i.2 M r A).tabled in
           let n = run_count M r k budget a.found a.rounds b.found b.rounds A.tabled B i.1 up in

@@ -9,7 +9,7 @@ pub returns : goal.returns
 returns c =
     let a : Analysis = c.args.self.now in
     record {
-      shut = λ e. absurd (both_ways _ e c.if-not-self.false);
+      shut = λ e. absurd (both_ways _ e c.in_ok-check_opened.ensures);
       told = λ M r A.
           let T = A.tabled in
           record {
