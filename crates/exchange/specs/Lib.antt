@@ -1,3 +1,4 @@
 pub mod Texts
 pub mod Listings
 pub mod Takes
+pub mod Settles

@@ -1,6 +1,6 @@
 //! A model file taken: loaded into lent tables and opened, with the faults of all layers.
 ghost use Rattle.std.specs.Prelude.{◌≡◌};
-ghost use Rattle.modelfile.specs.Loads.{held};
+ghost use Rattle.modelfile.specs.Loads.{held, StillLent};
 ghost use Rattle.exchange.specs.declared.taking.TakeFault.TheVariants.{InFile as Carried, InModel as Refuses};
 ghost use Rattle.exchange.specs.Takes.{take_told, TakeAnswer};
 
@@ -65,9 +65,7 @@ pub fn take(
     states: &mut [u16],
 ) -> Result<Opened, TakeFault>
     ensures answer { TakeAnswer file.now (held tables.old) (held tables.new) analysis.old analysis.new walks.old walks.new states.old states.new result }
-    ensures labels { tables.new.labels.ghost_name ≡ tables.old.labels.ghost_name }
-    ensures offsets { tables.new.offsets.ghost_name ≡ tables.old.offsets.ghost_name }
-    ensures targets { tables.new.targets.ghost_name ≡ tables.old.targets.ghost_name }
+    ensures lent { StillLent tables.old tables.new }
 {
     let loaded = load(file, tables)?;
     Ok(analysis.open(&tables.model(loaded), walks, states)?)

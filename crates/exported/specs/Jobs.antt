@@ -18,7 +18,8 @@ use Rattle.merger.specs.Tells.{OpenRefuses}
 use Rattle.merger.specs.declared.analysis.Analysis.{Analysis}
 use Rattle.writing.specs.Saves.{Saved, SaveFault, space_of}
 use Rattle.exchange.specs.Listings.{Lines, text_of}
-use Rattle.exchange.specs.Takes.{Held, NotTaken as Untaken}
+use Rattle.exchange.specs.Settles.{Settled, Brought}
+use Rattle.exchange.specs.Takes.{NotTaken as Untaken}
 use Rattle.exchange.specs.Texts.{Line}
 use Rattle.exchange.specs.declared.taking.TakeFault.TheVariants.{InFile, InModel}
 use Rattle.exported.specs.declared.outcomes.MergeFault.{MergeFault}
@@ -32,20 +33,6 @@ tables ls os ts = record { labels = ls; offsets = os; targets = ts }
 -- how many walk records and state numbers there is memory for
 abbrev pub scratch : ℕ
 scratch = 128
-
--- the analysis stands for M, after the round that settles it
-pub record Settled (M : Kripke) (a : Analysis) : Type 0 where
-  pub rounds : ℕ
-  pub settles : Settles M rounds
-  pub stands : Analysed M rounds a
-  pub promises : Promises M rounds a
-
--- the tables hold the model that the file denotes, and it is as said
-pub record Brought (file : List ℕ) (t t' : Tables) (As : Kripke → Type 0) : Type 0 where
-  pub labels : List Facts
-  pub rows : List (List ℕ)
-  pub held : Held file t t' labels rows
-  pub are : As (model_of labels rows)
 
 -- the listing of M, settled, stands at the front; or it has no room, and nothing is altered
 pub record Listing (M : Kripke) : Type 0 where

@@ -2,16 +2,18 @@
 ghost use Rattle.std.specs.Prelude.{◌≡◌, ℕ, length, MatchResult};
 ghost use Rattle.kripke.specs.Models.{Kripke};
 ghost use Rattle.merger.specs.Tells.{OpenRefuses};
-ghost use Rattle.modelfile.specs.Loads.{held};
+ghost use Rattle.modelfile.specs.Loads.{held, StillLent};
 ghost use Rattle.exchange.specs.Takes.{NotTaken};
-ghost use Rattle.exported.specs.Jobs.{scratch, Settled, Brought, Lists, MergesFile, MergesModel, ReducesFile, step_of, steps_of, ChecksModel, FindsComponents};
+ghost use Rattle.exchange.specs.Settles.{Settled, Brought};
+ghost use Rattle.exported.specs.Jobs.{scratch, Lists, MergesFile, MergesModel, ReducesFile, step_of, steps_of, ChecksModel, FindsComponents};
 
 use crate::outcomes::{MergeFault, ReduceFault};
 use checker::check;
 use checker::steps::{Refused, Step};
 use components::{Walk, find_components};
 use exchange::listing::listing;
-use exchange::taking::{TakeFault, take};
+use exchange::settling;
+use exchange::taking::TakeFault;
 use merger::analysis::Analysis;
 use merger::answers::OpenRefusal;
 use merger::reduced::Reduced;
@@ -25,7 +27,7 @@ const SCRATCH: usize = MOST_STATES as usize;
 
 // Opens a model, and makes all rounds: no model settles later than after as many rounds as it has states.
 fn settle<M: Model>(analysis: &mut Analysis, model: &M) -> Result<(), OpenRefusal>
-    ensures { MatchResult result (λ _. Settled (M.means model.now) analysis.new) (OpenRefuses (M.means model.now) scratch scratch) }
+    ensures { MatchResult result (λ _. Settled analysis.new (M.means model.now)) (OpenRefuses (M.means model.now) scratch scratch) }
 {
     let opened = analysis.open(model, &mut [Walk::BLANK; SCRATCH], &mut [0; SCRATCH])?;
     let _ = analysis.run(opened.states as usize);
@@ -33,30 +35,22 @@ fn settle<M: Model>(analysis: &mut Analysis, model: &M) -> Result<(), OpenRefusa
 }
 
 // The same of the model that a file denotes, which the tables hold afterwards.
-fn settle_file(
-    analysis: &mut Analysis,
-    file: &[u8],
-    tables: &mut Tables<'_>,
-) -> Result<(), TakeFault>
-    ensures answer { MatchResult result (λ _. Brought file.now (held tables.old) (held tables.new) (λ M. Settled M analysis.new)) (NotTaken file.now (held tables.old) (held tables.new) scratch scratch) }
-    ensures labels { tables.new.labels.ghost_name ≡ tables.old.labels.ghost_name }
-    ensures offsets { tables.new.offsets.ghost_name ≡ tables.old.offsets.ghost_name }
-    ensures targets { tables.new.targets.ghost_name ≡ tables.old.targets.ghost_name }
+fn settle_file(analysis: &mut Analysis, file: &[u8], tables: &mut Tables<'_>) -> Result<(), TakeFault>
+    ensures answer { MatchResult result (λ _. Brought file.now (held tables.old) (held tables.new) (Settled analysis.new)) (NotTaken file.now (held tables.old) (held tables.new) scratch scratch) }
+    ensures lent { StillLent tables.old tables.new }
 {
-    let opened = take(
+    settling::settle(
         analysis,
         file,
         tables,
         &mut [Walk::BLANK; SCRATCH],
         &mut [0; SCRATCH],
-    )?;
-    let _ = analysis.run(opened.states as usize);
-    Ok(())
+    )
 }
 
 // The listing of a settled analysis, at the text's front.
 fn list(analysis: &Analysis, text: &mut [u8]) -> Result<usize, MergeFault>
-    ensures { (M : Kripke) → Settled M analysis.now → Lists M text.old text.new result }
+    ensures { (M : Kripke) → Settled analysis.now M → Lists M text.old text.new result }
 {
     listing(analysis, text).ok().ok_or(MergeFault::NoRoom)
 }
@@ -67,9 +61,7 @@ pub fn merge_file(
     text: &mut [u8],
 ) -> Result<usize, MergeFault>
     ensures answer { MergesFile file.now (held tables.old) (held tables.new) text.old text.new result }
-    ensures labels { tables.new.labels.ghost_name ≡ tables.old.labels.ghost_name }
-    ensures offsets { tables.new.offsets.ghost_name ≡ tables.old.offsets.ghost_name }
-    ensures targets { tables.new.targets.ghost_name ≡ tables.old.targets.ghost_name }
+    ensures lent { StillLent tables.old tables.new }
 {
     let mut analysis = Analysis::new();
     settle_file(&mut analysis, file, tables)?;
@@ -90,9 +82,7 @@ pub fn reduce_file(
     out: &mut [u8],
 ) -> Result<usize, ReduceFault>
     ensures answer { ReducesFile file.now (held tables.old) (held tables.new) out.old out.new result }
-    ensures labels { tables.new.labels.ghost_name ≡ tables.old.labels.ghost_name }
-    ensures offsets { tables.new.offsets.ghost_name ≡ tables.old.offsets.ghost_name }
-    ensures targets { tables.new.targets.ghost_name ≡ tables.old.targets.ghost_name }
+    ensures lent { StillLent tables.old tables.new }
 {
     let mut analysis = Analysis::new();
     settle_file(&mut analysis, file, tables)?;

@@ -7,7 +7,8 @@ ghost use Rattle.intake.specs.Settling.{SettleAnswer};
 use components::Walk;
 use console::faults::{Fault, PAGES, print_fault};
 use console::{Tables, read_file};
-use exchange::taking::{TakeFault, take};
+use exchange::settling;
+use exchange::taking::TakeFault;
 use merger::analysis::Analysis;
 use merger::answers::OpenRefusal;
 use modelfile::faults::FaultNumbers;
@@ -43,15 +44,13 @@ pub fn settle(file: &[u8], tables: &mut Tables) -> Result<Analysis, TakeFault>
     ensures { SettleAnswer file.now tables.old result }
 {
     let mut analysis = Analysis::new();
-    let opened = take(
+    settling::settle(
         &mut analysis,
         file,
         &mut tables.lend(),
         &mut [Walk::BLANK; SCRATCH],
         &mut [0; SCRATCH],
     )?;
-    // no model settles later than after as many rounds as it has states
-    let _ = analysis.run(opened.states as usize);
     Ok(analysis)
 }
 

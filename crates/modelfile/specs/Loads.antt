@@ -21,6 +21,10 @@ pub record Tables : Type 0 where
 abbrev pub held : Lent → Tables
 held t = record { labels = t.labels.now; offsets = t.offsets.now; targets = t.targets.now }
 
+-- the same memory is lent as before
+abbrev pub StillLent : Lent → Lent → Type 0
+StillLent t t' = (t'.labels.ghost_name ≡ t.labels.ghost_name) × (t'.offsets.ghost_name ≡ t.offsets.ghost_name) × (t'.targets.ghost_name ≡ t.targets.ghost_name)
+
 -- how many entries they have
 abbrev pub room_of : Tables → Room
 room_of t = record { labels = length t.labels; offsets = length t.offsets; targets = length t.targets }

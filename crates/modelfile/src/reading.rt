@@ -1,6 +1,6 @@
 //! Loads a model file into lent tables.
 ghost use Rattle.std.specs.Prelude.{◌≡◌, ◌+◌, length, take};
-ghost use Rattle.modelfile.specs.Loads.{held, room_of, Loads, EachFileHasOneOutcome};
+ghost use Rattle.modelfile.specs.Loads.{held, room_of, StillLent, Loads, EachFileHasOneOutcome};
 
 use crate::faults::FileFault;
 use crate::fill::Numbers;
@@ -55,9 +55,7 @@ impl Tables<'_> {
 /// A file that is not right is refused with its first fault, and then nothing is written.
 pub fn load(file: &[u8], tables: &mut Tables<'_>) -> Result<Loaded, FileFault>
     ensures loads { Loads file.now (held tables.old) (held tables.new) result }
-    ensures labels { tables.new.labels.ghost_name ≡ tables.old.labels.ghost_name }
-    ensures offsets { tables.new.offsets.ghost_name ≡ tables.old.offsets.ghost_name }
-    ensures targets { tables.new.targets.ghost_name ≡ tables.old.targets.ghost_name }
+    ensures lent { StillLent tables.old tables.new }
 {
     let plan = scan(file, tables.room())?;
     let states = plan.states as usize;

@@ -1,7 +1,7 @@
 use Rattle.std.proofs.Common.{arith}
 use Rattle.modelfile.specs.Files.{model_of}
 use Rattle.merger.proofs.Settling.{run_settles}
-use Rattle.exported.proofs.jobs.settle_file.Goals as goal
+use Rattle.exchange.proofs.settling.settle.Goals as goal
 
 pub returns-clause-answer : goal.returns-clause-answer
 returns-clause-answer c =
