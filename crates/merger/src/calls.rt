@@ -110,6 +110,7 @@ impl Analysis {
     {
         self.check_opened()?;
         let mut rounds = 0;
+        // Kept: no index but the number of rounds made, which is answered; the settled round ends the loop as the budget does.
         while rounds < budget && !self.rounds.settled {
             self.step();
             rounds += 1;
