@@ -1,5 +1,6 @@
 //! The calls of an analysis.
 ghost use Rattle.std.specs.Prelude.{◌≡◌, ℕ, suc, ◌+◌, true, false, MatchResult};
+ghost use Rattle.merger.specs.declared.answers.Refusal.TheVariants.{NothingOpened};
 ghost use Rattle.kripke.specs.Models.{Kripke};
 ghost use Rattle.merger.specs.declared.answers.Refusal.TheVariants.{NothingOpened};
 ghost use Rattle.merger.specs.Calls.{Analysed, OpenAnswer, RoundAnswer, RunAnswer, ClassAnswer, TogetherAnswer, ReducedAnswer, SummaryAnswer};
@@ -72,11 +73,15 @@ impl Analysis {
         })
     }
 
-    // Refuses where nothing is opened.
+    // Refuses a call where nothing is opened.
     fn check_opened(&self) -> Result<(), Refusal>
-        ensures { MatchResult result (λ _. self.now.opened ≡ true) (λ e. (self.now.opened ≡ false) × (e ≡ NothingOpened)) }
+        ensures { MatchResult result (λ _. self.now.opened ≡ true) (λ e. (e ≡ NothingOpened) × (self.now.opened ≡ false)) }
     {
-        self.opened.then_some(()).ok_or(Refusal::NothingOpened)
+        if self.opened {
+            Ok(())
+        } else {
+            Err(Refusal::NothingOpened)
+        }
     }
 
     // One more round of what is opened and not settled.
