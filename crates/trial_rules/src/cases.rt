@@ -8,6 +8,7 @@ use components::Walk;
 use exchange::taking::take;
 use itertools::Itertools;
 use merger::analysis::Analysis;
+use modelfile::faults::FaultNumbers;
 use modelfile::reading::{self, load};
 use models::Model;
 use models::facts::Facts;
@@ -17,7 +18,7 @@ use second::oracle::Plain;
 use second::tables::Tables;
 use std::alloc::{AllocError, Global};
 use std::fmt;
-use survey::gaps::GapNumbers;
+use survey::gaps::Numbers;
 use writing::saving::save;
 
 /// What has been tried so far, how much of it was refused, and how often the rules said otherwise.
@@ -38,23 +39,36 @@ impl fmt::Display for Cases {
     }
 }
 
-impl From<GapNumbers> for Told {
-    fn from(told: GapNumbers) -> Told {
+impl<Place: Into<usize>> From<Numbers<Place>> for Told {
+    fn from(told: Numbers<Place>) -> Told {
         Told {
             cause: told.cause,
-            place: usize::from(told.place),
+            place: told.place.into(),
             number: usize::from(told.number),
         }
     }
 }
 
-impl From<checker::Numbers> for Told {
-    fn from(told: checker::Numbers) -> Told {
-        Told {
-            cause: told.cause,
-            place: told.place,
-            number: usize::from(told.number),
-        }
+// The tables that a file is loaded into.
+#[derive(Clone, Copy, PartialEq, Eq)]
+struct Small {
+    labels: [Facts; 3],
+    offsets: [u32; 3],
+    targets: [u16; 2],
+}
+
+impl Small {
+    const BLANK: Small = Small {
+        labels: [Facts::NONE; 3],
+        offsets: [9; 3],
+        targets: [9; 2],
+    };
+
+    // Whether they hold these tables at their fronts.
+    fn hold(&self, tables: &Tables) -> bool {
+        self.labels.starts_with(&tables.labels)
+            && self.offsets.starts_with(&tables.offsets)
+            && self.targets.starts_with(&tables.targets)
     }
 }
 
@@ -150,37 +164,32 @@ impl Cases {
 
     fn faulty(&mut self, bytes: &[u8], wanted: Told) {
         self.count(true);
-        let (mut labels, mut offsets, mut targets) = ([Facts::NONE; 3], [9; 3], [9; 2]);
-        let layer = if wanted.cause < 3 { 1 } else { 2 };
+        let mut small = Small::BLANK;
         let mut lent = reading::Tables {
-            labels: &mut labels,
-            offsets: &mut offsets,
-            targets: &mut targets,
+            labels: &mut small.labels,
+            offsets: &mut small.offsets,
+            targets: &mut small.targets,
         };
-        match load(bytes, &mut lent) {
-            Ok(_) => self.differences.add_one(),
-            Err(fault) => {
-                let told = fault.numbers();
-                self.differences.add_if(
-                    told.layer != layer
-                        || told.cause != wanted.cause
-                        || told.place != wanted.place
-                        || told.number != 0,
-                );
-                self.differences
-                    .add_if(offsets != [9; 3] || targets != [9; 2]);
-            }
-        }
+        let fault = load(bytes, &mut lent).err();
+        let told = FaultNumbers {
+            layer: if wanted.cause < 3 { 1 } else { 2 },
+            cause: wanted.cause,
+            place: wanted.place,
+            number: 0,
+        };
+        self.differences
+            .add_if(fault.map(|why| why.numbers()) != Some(told));
+        self.differences.add_if(small != Small::BLANK);
     }
 
     fn accepted(&mut self, heap: Global, bytes: &[u8], model: &Plain) -> Result<(), AllocError> {
         self.count(false);
         let tables = Tables::of(heap, model)?;
-        let (mut labels, mut offsets, mut targets) = ([Facts::NONE; 3], [9; 3], [9; 2]);
+        let mut small = Small::BLANK;
         let mut lent = reading::Tables {
-            labels: &mut labels,
-            offsets: &mut offsets,
-            targets: &mut targets,
+            labels: &mut small.labels,
+            offsets: &mut small.offsets,
+            targets: &mut small.targets,
         };
         let loaded = take(
             &mut Analysis::new(),
@@ -193,11 +202,7 @@ impl Cases {
         let refusal = open_refusal(&rows, 3, 3);
         self.differences
             .add_if(loaded.is_err() != refusal.is_some());
-        self.differences
-            .add_if(!offsets.starts_with(&tables.offsets));
-        self.differences
-            .add_if(!targets.starts_with(&tables.targets));
-        self.differences.add_if(!labels.starts_with(&tables.labels));
+        self.differences.add_if(!small.hold(&tables));
         let mut copy = [0xEE; 8];
         let len = save(&tables.listed(), &mut copy).unwrap_or(0);
         self.differences.add_if(copy.get(0..len) != Some(bytes));
