@@ -4,7 +4,7 @@ use mathlib.Core.HLevel.{⊥_prop}
 use Rattle.std.proofs.Common.{◌≡◌, ℕ, zero, suc, ◌+◌, ◌<◌, ◌≤◌, true, false, not, List, [], ◌∷◌, ◌++◌, length, drop, Ok, Err, Some, None, Option, Result, MatchOption, sym, refl, ap, ◌∙◌, subst, ⊎_elim, inl, inr, add-one, arith}
 use Rattle.std.proofs.lemmas.Grind.{flat_map-append}
 use Rattle.std.proofs.lemmas.List.{length-append, drop-append-le, drop_all, drop_at}
-use Rattle.std.proofs.lemmas.Bool.{both_ways, not-true, not-false, cases_Bool, cases_lt}
+use Rattle.std.proofs.lemmas.Bool.{not-false, cases_Bool, cases_lt}
 use Rattle.std.specs.Option.{ok_or}
 use Rattle.std.specs.Result.{result_ok}
 use Rattle.kripke.specs.Models.{Kripke}
@@ -13,7 +13,7 @@ use Rattle.merger.specs.Promise.{Classes}
 use Rattle.merger.specs.Calls.{Analysed, ClassAnswer, SummaryAnswer}
 use Rattle.merger.specs.declared.analysis.Analysis.{Analysis}
 use Rattle.merger.specs.declared.answers.Refusal.{Refusal}
-use Rattle.merger.specs.declared.answers.Refusal.TheVariants.{NotSettled, ShortBuffer}
+use Rattle.merger.specs.declared.answers.Refusal.TheVariants.{ShortBuffer}
 use Rattle.merger.specs.declared.answers.Summary.{Summary}
 use Rattle.merger.proofs.Rounding.{meant_bounded}
 use Rattle.exchange.specs.Texts.{Line, Member, line_text}

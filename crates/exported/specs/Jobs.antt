@@ -10,15 +10,12 @@ use Rattle.checker.specs.declared.steps.Refused.{Refused}
 use Rattle.kripke.specs.Relation.{Settles}
 use Rattle.codec.specs.Pieces.{placed}
 use Rattle.models.specs.declared.facts.Facts.{Facts}
-use Rattle.modelfile.specs.Files.{model_of}
 use Rattle.modelfile.specs.Loads.{Tables}
-use Rattle.merger.specs.Calls.{Analysed, Promises}
 use Rattle.merger.specs.Reducing.{Fills}
 use Rattle.merger.specs.Tells.{OpenRefuses}
-use Rattle.merger.specs.declared.analysis.Analysis.{Analysis}
 use Rattle.writing.specs.Saves.{Saved, SaveFault, space_of}
 use Rattle.exchange.specs.Listings.{Lines, text_of}
-use Rattle.exchange.specs.Settles.{Settled, Brought}
+use Rattle.exchange.specs.Settles.{Brought}
 use Rattle.exchange.specs.Takes.{NotTaken as Untaken}
 use Rattle.exchange.specs.Texts.{Line}
 use Rattle.exchange.specs.declared.taking.TakeFault.TheVariants.{InFile, InModel}

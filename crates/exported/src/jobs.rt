@@ -35,7 +35,11 @@ fn settle<M: Model>(analysis: &mut Analysis, model: &M) -> Result<(), OpenRefusa
 }
 
 // The same of the model that a file denotes, which the tables hold afterwards.
-fn settle_file(analysis: &mut Analysis, file: &[u8], tables: &mut Tables<'_>) -> Result<(), TakeFault>
+fn settle_file(
+    analysis: &mut Analysis,
+    file: &[u8],
+    tables: &mut Tables<'_>,
+) -> Result<(), TakeFault>
     ensures answer { MatchResult result (λ _. Brought file.now (held tables.old) (held tables.new) (Settled analysis.new)) (NotTaken file.now (held tables.old) (held tables.new) scratch scratch) }
     ensures lent { StillLent tables.old tables.new }
 {

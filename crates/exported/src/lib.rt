@@ -11,7 +11,7 @@ ghost use Rattle.exported.specs.declared.outcomes.ReduceFault.{ReduceFault};
 ghost use Rattle.checker.specs.declared.steps.Refused.{Refused};
 
 use crate::jobs::{check_steps, components_of, merge, merge_file, reduce_file};
-use crate::outcomes::Outcome;
+use crate::outcomes::{Outcome, answered};
 use modelfile::reading::Tables;
 use models::facts::Facts;
 use models::listed::Listed;
@@ -36,10 +36,7 @@ pub extern "C" fn tulavemin_merge_file(
         offsets,
         targets,
     };
-    match merge_file(file, &mut tables, text) {
-        Ok(length) => Outcome::accepted(length),
-        Err(fault) => fault.into(),
-    }
+    answered(merge_file(file, &mut tables, text))
 }
 
 /// The same of a model by tables.
@@ -57,10 +54,7 @@ pub extern "C" fn tulavemin_merge_tables(
         offsets,
         targets,
     };
-    match merge(&model, text) {
-        Ok(length) => Outcome::accepted(length),
-        Err(fault) => fault.into(),
-    }
+    answered(merge(&model, text))
 }
 
 /// Takes a model file, makes all rounds and writes the reduced model as a file to the front of `reduced`.
@@ -79,10 +73,7 @@ pub extern "C" fn tulavemin_reduce_file(
         offsets,
         targets,
     };
-    match reduce_file(file, &mut tables, reduced) {
-        Ok(length) => Outcome::accepted(length),
-        Err(fault) => fault.into(),
-    }
+    answered(reduce_file(file, &mut tables, reduced))
 }
 
 /// Marks each state of a model by tables: 1 where the formula is true that the steps stand for, 0 where it is not. The length
@@ -102,10 +93,7 @@ pub extern "C" fn tulavemin_check_tables(
         offsets,
         targets,
     };
-    match check_steps(&model, steps, marks) {
-        Ok(length) => Outcome::accepted(length),
-        Err(why) => why.into(),
-    }
+    answered(check_steps(&model, steps, marks))
 }
 
 /// A number for each state.

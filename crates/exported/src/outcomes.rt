@@ -3,7 +3,8 @@ ghost use Rattle.std.specs.Prelude.{◌≡◌};
 ghost use Rattle.exchange.specs.declared.taking.TakeFault.TheVariants.{InModel};
 ghost use Rattle.exported.specs.declared.outcomes.MergeFault.TheVariants.{NotTaken as NotMerged};
 ghost use Rattle.exported.specs.declared.outcomes.ReduceFault.TheVariants.{NotTaken as NotReduced, NotSaved};
-ghost use Rattle.exported.specs.Outcomes.{accepted, refused, fault_told, merge_told, reduce_told, check_told};
+ghost use Rattle.exported.specs.declared.outcomes.Outcome.{Outcome as Told};
+ghost use Rattle.exported.specs.Outcomes.{accepted, refused, outcome, fault_told, merge_told, reduce_told, check_told};
 
 use checker::steps::Refused;
 use exchange::taking::TakeFault;
@@ -108,8 +109,10 @@ impl From<FaultNumbers> for Outcome {
     }
 }
 
-impl From<MergeFault> for Outcome {
-    ghost from_gives = { λ fault r. r ≡ merge_told fault };
+// A fault that an outcome tells.
+pub trait Fault {
+    // what it tells
+    ghost told: { Self → Told };
 
     fn from(fault: MergeFault) -> Outcome {
         match fault {
@@ -140,5 +143,15 @@ impl From<Refused> for Outcome {
             place: told.place,
             ..Outcome::refused(told.cause)
         }
+    }
+}
+
+// What a call answers in numbers.
+pub fn answered<F: Fault>(answer: Result<usize, F>) -> Outcome
+    ensures { result ≡ outcome F.told answer }
+{
+    match answer {
+        Ok(length) => Outcome::accepted(length),
+        Err(fault) => fault.tell(),
     }
 }

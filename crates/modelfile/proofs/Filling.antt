@@ -2,7 +2,7 @@
 use Rattle.std.proofs.Common.{◌≡◌, ℕ, ◌+◌, ◌-◌, ◌^◌, ◌<◌, ◌≤◌, List, [], ◌∷◌, ◌++◌, map, length, get_or, take, drop, set, sym, refl, ap, ◌∙◌, subst, zero-add, arith}
 use Rattle.std.specs.List.{flat_map, AllByRecursion}
 use Rattle.std.proofs.ByRecursion.{All-get_or}
-use Rattle.std.proofs.lemmas.List.{append_assoc, append-nil, drop_all, drop-drop, drop_more, length-append, length-drop, length-set, length-take, length-take-le, set-set, take_all, take_at, take_more, take-take}
+use Rattle.std.proofs.lemmas.List.{append_assoc, append-nil, drop_all, drop-drop, drop_more, length-append, length-drop, length-set, length-take, length-take-le, take_all, take_at, take_more, take-take}
 use borrow.Rule.Slice.PartMut.{put_mid}
 use Rattle.codec.specs.Numbers.{code, codes, counted}
 use Rattle.codec.specs.Pieces.{placed}

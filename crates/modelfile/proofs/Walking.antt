@@ -8,7 +8,7 @@ use Rattle.codec.specs.Numbers.{code, codes, counted}
 use Rattle.codec.specs.Reading.{Stands}
 use Rattle.modelfile.specs.Files.{bits_of, numbers, longest, Sized, RisingRow, Wide, targets_of}
 use Rattle.modelfile.specs.FirstFault.{Spot, at_size, at_label, at_degree, at_target, before, Right, RightLabels, HoldsStates, Reached, Fails, FirstFault, Denotes}
-use Rattle.modelfile.specs.Walks.{SameFile, LabelsRead, RowsRead, TargetsRead, Lowest, Begun}
+use Rattle.modelfile.specs.Walks.{SameFile, LabelsRead, RowsRead, TargetsRead}
 use Rattle.modelfile.specs.declared.faults.FileFault.{FileFault}
 use Rattle.modelfile.specs.declared.scan.Room.{Room}
 use Rattle.modelfile.specs.declared.scan.Reader.{Reader}

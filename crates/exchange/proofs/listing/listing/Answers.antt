@@ -1,4 +1,3 @@
-use Rattle.std.proofs.Common.{drop, ap, ◌∙◌, subst}
 use Rattle.exchange.proofs.Lists.{listing_told}
 use Rattle.exchange.proofs.listing.listing.Goals as goal
 

@@ -1,4 +1,4 @@
-use Rattle.std.proofs.Common.{◌≡◌, ◌+◌, ℕ, length, take, sym, ◌∙◌, arith}
+use Rattle.std.proofs.Common.{◌+◌, arith}
 use Rattle.std.proofs.lemmas.List.{length-take-le}
 use Rattle.modelfile.specs.Files.{offsets_of}
 use Rattle.modelfile.specs.Loads.{held, Filled}

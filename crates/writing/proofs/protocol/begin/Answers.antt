@@ -1,4 +1,4 @@
-use Rattle.std.proofs.Common.{rules, ◌≡◌, ap, ◌∙◌, zero-add, arith, Some}
+use Rattle.std.proofs.Common.{◌≡◌, ap, ◌∙◌, zero-add, arith, Some}
 use Rattle.modelfile.specs.Files.{Sized}
 use Rattle.writing.specs.Writings.{Begun}
 use Rattle.writing.proofs.Holds.{begun_holds}

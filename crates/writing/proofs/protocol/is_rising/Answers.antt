@@ -1,4 +1,4 @@
-use Rattle.std.proofs.Common.{ℕ, ◌<◌, ◌-◌, ltb, length, get_or, rules, arith}
+use Rattle.std.proofs.Common.{ltb, rules}
 use Rattle.std.proofs.lemmas.List.Sorted.{answers_always}
 use Rattle.writing.proofs.Risings.{rising_answer}
 use Rattle.writing.proofs.protocol.is_rising.Goals as goal

@@ -1,4 +1,4 @@
-use Rattle.std.proofs.Common.{refl, arith, rules}
+use Rattle.std.proofs.Common.{refl, arith}
 use Rattle.std.proofs.lemmas.Result.{err_from_is_err_and}
 use Rattle.modelfile.specs.FirstFault.{at_label}
 use Rattle.modelfile.proofs.Walking.{labels_more, stops}

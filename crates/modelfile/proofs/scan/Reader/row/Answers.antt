@@ -1,5 +1,4 @@
 use Rattle.std.proofs.Common.{arith, rules, ◌∙◌}
-use Rattle.std.proofs.lemmas.Result.{err_from_is_err_and}
 use Rattle.modelfile.proofs.Walking.{rows_more}
 use Rattle.modelfile.proofs.scan.Reader.row.Goals as goal
 
