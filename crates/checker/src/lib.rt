@@ -45,10 +45,7 @@ impl Refused {
         ensures { (result.cause ≡ cause self) × ((result.place ≡ place self) × (result.number ≡ move_number self)) }
     {
         let (cause, place, number) = match self {
-            Refused::Model(gap) => {
-                let of = gap.numbers();
-                (of.cause, of.place as usize, of.number)
-            }
+            Refused::Model(gap) => return gap.numbers().into(),
             Refused::Steps(Malformed::Length) => (31, 0, 0),
             Refused::Steps(Malformed::TooFewOperands { step }) => (32, step, 0),
             Refused::Steps(Malformed::NotOneLeft) => (33, 0, 0),

@@ -66,14 +66,7 @@ impl Fault for Gap {
     ghost told = { gap_told };
 
     fn tells(&self) -> FaultNumbers {
-        let told = self.numbers();
-        // Kept: exchange has the same lines; a From is for survey or modelfile to give, which do not know each other.
-        FaultNumbers {
-            layer: 3,
-            cause: told.cause,
-            place: told.place as usize,
-            number: told.number,
-        }
+        self.numbers().into()
     }
 
     fn advice(&self) -> &'static str {

@@ -42,15 +42,7 @@ impl TakeFault {
     {
         match self {
             TakeFault::InFile(fault) => fault.numbers(),
-            TakeFault::InModel(refusal) => {
-                let told = refusal.numbers();
-                FaultNumbers {
-                    layer: 3,
-                    cause: told.cause,
-                    place: told.place as usize,
-                    number: told.number,
-                }
-            }
+            TakeFault::InModel(refusal) => refusal.numbers().into(),
         }
     }
 }

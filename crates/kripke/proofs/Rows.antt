@@ -1,18 +1,12 @@
 -- What is known of a row's moves.
-use Rattle.std.proofs.Common.{◌≡◌, ℕ, ◌<◌, Bool, true, false, cond, ltb, List, map, length, get_or, Some, None, refl, ap, arith}
+use Rattle.std.proofs.Common.{◌≡◌, ℕ, ◌<◌, Bool, true, false, cond, List, length, get_or, Some, None, refl, ap, arith}
 use Rattle.std.specs.Option.{option_map}
-use Rattle.std.proofs.lemmas.List.{get_or-map, length-map}
-use Rattle.std.proofs.lemmas.Bool.{ltb-true}
 use Rattle.std.proofs.lemmas.Bool.Decides.{nat_tests}
 use Rattle.kripke.specs.Models.{move, nowhere}
 
 by_case : (f : ℕ → ℕ) (b : Bool) (x y : ℕ) → (b ≡ true → x ≡ f y) → cond b (Some x) None ≡ option_map f (cond b (Some y) None)
 by_case f true x y h = ap Some (h refl)
 by_case f false x y h = refl
-
--- a layer that alters each move of a row alters what is told of it
-pub move-map : (f : ℕ → ℕ) (row : List ℕ) (k : ℕ) → move (map f row) k ≡ option_map f (move row k)
-move-map f row k = rw (length-map row f) (by_case f (ltb k (length row)) _ _ (λ e. get_or-map f row k nowhere nowhere (ltb-true k _ e)))
 
 -- what the answer to a question for move k tells
 pub move_some : (row : List ℕ) (k t : ℕ) → Some t ≡ move row k → (k < length row) × (get_or row k nowhere ≡ t)

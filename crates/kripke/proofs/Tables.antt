@@ -1,7 +1,7 @@
 -- What the tables of a listed model give.
-use Rattle.std.proofs.Common.{◌≡◌, ℕ, zero, suc, ◌+◌, ◌<◌, ◌≤◌, false, ltb, List, [], ◌∷◌, map, length, get_or, refl, arith}
+use Rattle.std.proofs.Common.{◌≡◌, ℕ, zero, suc, ◌+◌, ◌≤◌, false, ltb, List, [], ◌∷◌, map, length, get_or, refl, arith}
 use Rattle.std.proofs.ByRecursion.{All-map, All-from_get_or}
-use Rattle.std.proofs.lemmas.List.{get_or-map, length-map, length-take}
+use Rattle.std.proofs.lemmas.List.{length-map, length-take}
 use Rattle.std.proofs.lemmas.Bool.{cond_both}
 use Rattle.std.proofs.lemmas.Bool.Decides.{nat_tests}
 use Rattle.kripke.specs.Words.{Words, Lawful}
@@ -23,12 +23,6 @@ label_words : {L : Type 0} (means : L → Words) (a : ℕ) → ((x : L) → mean
 label_words means a none [] s = refl
 label_words means a none (x ∷ labels) zero = none x
 label_words means a none (x ∷ labels) (suc s) = label_words means a none labels s
-
--- the words of a state are those of its label
-pub listed_words : {L : Type 0} (means : L → Words) (labels : List L) (offsets : List ℕ) (s : ℕ) (d : L) → s < listed_size labels offsets → (a : ℕ) → get_or (map (λ x. means x a) labels) s false ≡ means (get_or labels s d) a
-listed_words means labels offsets s d h a =
-    let inside : s < length labels = grind (arith, nat_tests) in
-    get_or-map (λ y. means y a) labels s d false inside
 
 pub listed_sound : {L : Type 0} (labels : List L) (offsets targets : List ℕ) → SoundFrame (listed_frame labels offsets targets)
 listed_sound labels offsets targets = record {

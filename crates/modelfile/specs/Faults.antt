@@ -4,6 +4,7 @@ use Rattle.codec.specs.Pieces.{placed}
 use Rattle.codec.specs.Texts.{line}
 use Rattle.codec.specs.declared.numbers.NumberFault.{NumberFault}
 use Rattle.codec.specs.declared.numbers.NumberFault.TheVariants.{CutShortAt, NotFewestAt}
+use Rattle.survey.specs.declared.gaps.Numbers.{Numbers}
 use Rattle.modelfile.specs.declared.faults.FaultNumbers.{FaultNumbers}
 use Rattle.modelfile.specs.declared.faults.FileFault.{FileFault}
 use Rattle.modelfile.specs.declared.faults.FileFault.TheVariants.{InNumber, OutOfRange, NotRising, TableShort, LeftOver, TooLong}
@@ -23,6 +24,10 @@ file_told (NotRising place) = record { layer = 2; cause = 4; place = place; numb
 file_told (TableShort place) = record { layer = 2; cause = 5; place = place; number = 0 }
 file_told (LeftOver place) = record { layer = 2; cause = 6; place = place; number = 0 }
 file_told TooLong = record { layer = 2; cause = 7; place = 32767; number = 0 }
+
+-- layer 3: what a model lacks
+abbrev pub gap_told : Numbers ℕ → FaultNumbers
+gap_told n = record { layer = 3; cause = n.cause; place = n.place; number = n.number }
 
 -- the refusal to write a text
 abbrev pub text_cause : TextFault → ℕ

@@ -2,11 +2,12 @@
 ghost use Rattle.std.specs.Prelude.{◌≡◌, ◌<◌, ◌≤◌, length, MatchResult};
 ghost use Rattle.codec.specs.Pieces.{placed};
 ghost use Rattle.modelfile.specs.declared.faults.FileFault.TheVariants.{InNumber as Carried};
-ghost use Rattle.modelfile.specs.Faults.{number_told, file_told, text_cause, fault_line, TellsFault};
+ghost use Rattle.modelfile.specs.Faults.{number_told, file_told, gap_told, text_cause, fault_line, TellsFault};
 
 use codec::numbers::NumberFault;
 use codec::pieces::{Piece, Text};
 use codec::text::Line;
+use survey::gaps::GapNumbers;
 
 /// What is wrong with a model file, and where. A fault of one of its numbers is carried whole.
 #[derive(Clone, Copy, Debug, PartialEq, Eq)]
@@ -74,6 +75,20 @@ impl From<NumberFault> for FaultNumbers {
             cause,
             place,
             number: 0,
+        }
+    }
+}
+
+// Layer 3: what a model is refused for.
+impl From<GapNumbers> for FaultNumbers {
+    ghost from_gives = { λ of r. r ≡ gap_told of };
+
+    fn from(of: GapNumbers) -> FaultNumbers {
+        FaultNumbers {
+            layer: 3,
+            cause: of.cause,
+            place: of.place as usize,
+            number: of.number,
         }
     }
 }

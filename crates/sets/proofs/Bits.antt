@@ -122,9 +122,6 @@ some_in (suc w) x h p = ⊎_elim
 pub or_grows : (a b : ℕ) → a ≤ bit_or a b
 or_grows a b = omega (arith, or_add_and a b, and_le_r a b)
 
-pub out_is_0 : (x k : ℕ) → (On x k → ⊥) → bit x k ≡ 0
-out_is_0 x k n = omega (arith, bit_two x k)
-
 -- a number of w bits has none from w up
 pub high_out : (w x k : ℕ) → x < 2 ^ w → w ≤ k → On x k → ⊥
 high_out w x k fits past h =

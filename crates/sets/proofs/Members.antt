@@ -1,12 +1,12 @@
 -- The members of a set as a rising list.
-use Rattle.std.proofs.Common.{◌≡◌, ℕ, zero, suc, ◌+◌, ◌^◌, ◌<◌, ◌≤◌, Bool, true, false, cond, eqb, ◌⊎◌, ◌↔◌, List, [], ◌∷◌, length, get_or, filter, sym, refl, ap, ◌∙◌, subst, inl, inr, ⊎_elim, zero-add, arith}
+use Rattle.std.proofs.Common.{◌≡◌, ℕ, zero, suc, ◌+◌, ◌<◌, ◌≤◌, Bool, true, false, cond, eqb, ◌⊎◌, List, [], ◌∷◌, length, get_or, filter, sym, refl, ap, ◌∙◌, subst, inl, inr, ⊎_elim, zero-add, arith}
 use Rattle.std.specs.List.{range_with_len}
 use Rattle.std.proofs.lemmas.Bool.{cases_eq, cases_Bool, eqb-true, eq-eqb, ne_eqb, both_ways, cond-true, cond-false}
 use Rattle.std.proofs.lemmas.List.FromFn.{length-range_with_len}
 use Rattle.std.proofs.ByRecursion.{All-get_or, kept_by_passes}
 use Rattle.sets.specs.declared.Set.{Set}
 use Rattle.sets.specs.Sets.{bit, In, members, Splits}
-use Rattle.sets.proofs.Bits.{On, none_in, same_bits}
+use Rattle.sets.proofs.Bits.{On, none_in}
 
 kept_few : (p : ℕ → Bool) (xs : List ℕ) → length (filter p xs) ≤ length xs
 kept_few p [] = omega arith
@@ -126,7 +126,3 @@ members_small x i d l = let r = (kept_low (λ j. eqb (bit x.bits j) 1) 128 0 i d
 pub members_rise : (x : Set) (i d : ℕ) → suc i < length (members x) → get_or (members x) i d < get_or (members x) (suc i) d
 unfolding members
 members_rise x i d l = kept_rises (λ j. eqb (bit x.bits j) 1) 128 0 i d l
-
--- two sets with the same members are equal
-pub same_members : (x y : Set) → x.bits < 2 ^ 128 → y.bits < 2 ^ 128 → ((j : ℕ) → j < 128 → In x j ↔ In y j) → x ≡ y
-same_members x y fx fy same = ap (λ (b : ℕ). let z : Set = record { bits = b } in z) (same_bits 128 x.bits y.bits fx fy same)

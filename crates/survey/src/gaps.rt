@@ -25,6 +25,18 @@ pub struct Numbers<Place> {
 /// A gap's numbers: its place is the state that has it, and the move is one of that state's row.
 pub type GapNumbers = Numbers<u16>;
 
+impl From<GapNumbers> for Numbers<usize> {
+    ghost from_gives = { λ n r. r ≡ record { cause = n.cause; place = n.place; number = n.number } };
+
+    fn from(told: GapNumbers) -> Numbers<usize> {
+        Numbers {
+            cause: told.cause,
+            place: told.place as usize,
+            number: told.number,
+        }
+    }
+}
+
 impl Gap {
     /// The numbers that a gap is told by.
     pub fn numbers(self) -> GapNumbers
