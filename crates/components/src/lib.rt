@@ -18,6 +18,7 @@ mod search;
 
 pub use crate::marks::Walk;
 
+// Kept: survey has the same number for what is worked on; a search needs no survey.
 /// The most states that are searched.
 pub const MOST_STATES: u16 = 128;
 

@@ -20,6 +20,7 @@ pub fn number(places: &[Place; 128], size: u16, part: &mut [u8; 128]) -> Sizes
     requires done { (s : ℕ) → s < size → (d : ℕ) × (spot places.now s ≡ Done d) × (d < 128) }
     ensures { Numbered places.now size part.old part.new result.count result.many }
 {
+    // Kept: an array of fixed size, since the library takes no heap.
     let mut given = [None; 128];
     let mut count = 0;
     let mut many = Set::NONE;

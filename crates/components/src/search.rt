@@ -39,6 +39,7 @@ impl<'a> Search<'a> {
         requires { Resting (inner (M.Model.means model.now)) self.old }
         ensures { Searched (inner (M.Model.means model.now)) self.new.place self.new.count }
     {
+        // Kept: by number, since the walk writes the places meanwhile, so that no place can be lent.
         for root in 0..model.size() {
             if let Place::Unseen = self.place[root as usize] {
                 self.explore(model, root);

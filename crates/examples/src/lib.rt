@@ -33,6 +33,15 @@ pub fn chain() -> Listed<'static, Facts> {
     }
 }
 
+/// Two states without words that move to each other.
+pub fn pair() -> Listed<'static, Facts> {
+    Listed {
+        labels: &[NONE, NONE],
+        offsets: &[0, 1, 2],
+        targets: &[1, 0],
+    }
+}
+
 /// One state that moves to itself.
 pub fn single() -> Listed<'static, Facts> {
     Listed {

@@ -1,5 +1,5 @@
 -- What the exported calls answer and leave.
-use Rattle.std.specs.Prelude.{◌≡◌, ℕ, ◌<◌, ◌≤◌, List, length, take, map, if◌then◌else◌, ◌==◌, nat_lt, ◌⊎◌, Ok, Err, Result, MatchResult}
+use Rattle.std.specs.Prelude.{◌≡◌, ℕ, ◌<◌, ◌≤◌, List, length, take, map, if◌then◌else◌, ◌==◌, nat_lt, Option, MatchOption, Ok, Err, Result, MatchResult}
 use Rattle.kripke.specs.Models.{Kripke, Alike}
 use Rattle.kripke.specs.Components.{Components}
 use Rattle.components.specs.Numbers.{number}
@@ -88,7 +88,7 @@ ChecksModel M steps before after answer = MatchResult answer
 
 -- the components of M at the front, numbered by first member, and how many there are; or there are too many states, and nothing
 -- is altered
-abbrev pub FindsComponents : Kripke → (before after : List ℕ) → ℕ → Type 0
-FindsComponents M before after count =
-    ((M.frame.size ≤ scratch) × Components M.frame (Alike M) (number after) count × ((s : ℕ) → M.frame.size ≤ s → number after s ≡ number before s))
-    ⊎ ((scratch < M.frame.size) × (count ≡ 0) × (after ≡ before))
+abbrev pub FindsComponents : Kripke → (before after : List ℕ) → Option ℕ → Type 0
+FindsComponents M before after answer = MatchOption answer
+    ((scratch < M.frame.size) × (after ≡ before))
+    (λ count. (M.frame.size ≤ scratch) × Components M.frame (Alike M) (number after) count × ((s : ℕ) → M.frame.size ≤ s → number after s ≡ number before s))

@@ -22,6 +22,7 @@ use models::Model;
 use survey::MOST_STATES;
 use writing::saving::save;
 
+// Kept: arrays of fixed size here and below, since a library takes no heap.
 // Scratch has an entry for each state that an analysis may have.
 const SCRATCH: usize = MOST_STATES as usize;
 
@@ -100,6 +101,7 @@ pub fn reduce_file(
 const STEPS: usize = 65;
 
 // The step that a number stands for.
+// Kept: numbers, since an enum with a field does not cross to C.
 fn step_of(number: u16) -> Step
     ensures { result ≡ step_of number }
 {
@@ -133,11 +135,9 @@ pub fn check_steps<M: Model>(model: &M, numbers: &[u16], marks: &mut [u8]) -> Re
     Ok(model.size() as usize)
 }
 
-pub fn components_of<M: Model>(model: &M, part: &mut [u8; 128]) -> usize
+pub fn components_of<M: Model>(model: &M, part: &mut [u8; 128]) -> Option<u8>
     ensures { FindsComponents (M.means model.now) part.old part.new result }
 {
-    match find_components(model, &mut [Walk::BLANK; SCRATCH], &mut [0; SCRATCH], part) {
-        Ok(found) => found.count as usize,
-        Err(_) => 0,
-    }
+    let found = find_components(model, &mut [Walk::BLANK; SCRATCH], &mut [0; SCRATCH], part).ok()?;
+    Some(found.count)
 }

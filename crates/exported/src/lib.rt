@@ -1,7 +1,8 @@
 //! The merger for programs in C and in Rust: a few calls over memory that is lent. A slice is passed as a pointer and a length.
 #![tactic(auto)]
 
-ghost use Rattle.std.specs.Prelude.{◌≡◌, ℕ, ◌<◌, ◌≤◌, length, Result, slice_index_or};
+ghost use Rattle.std.specs.Prelude.{◌≡◌, ℕ, Option, Result};
+ghost use Rattle.std.specs.Option.{unwrap_or};
 ghost use Rattle.kripke.specs.Kinds.{listed};
 ghost use Rattle.models.specs.Facts.{fact_words};
 ghost use Rattle.exported.specs.Outcomes.{outcome, merge_told, reduce_told, check_told};
@@ -10,6 +11,7 @@ ghost use Rattle.exported.specs.declared.outcomes.MergeFault.{MergeFault};
 ghost use Rattle.exported.specs.declared.outcomes.ReduceFault.{ReduceFault};
 ghost use Rattle.checker.specs.declared.steps.Refused.{Refused};
 
+// Kept: the tables side by side in each call, since slices cross to C one by one.
 use crate::jobs::{check_steps, components_of, merge, merge_file, reduce_file};
 use crate::outcomes::{Outcome, answered};
 use modelfile::reading::Tables;
@@ -111,12 +113,13 @@ pub extern "C" fn tulavemin_components(
     targets: &[u16],
     parts: &mut Parts,
 ) -> usize
-    ensures { FindsComponents (listed 64 fact_words labels.now offsets.now targets.now) parts.old.part parts.new.part result }
+    ensures { (answer : Option ℕ) × (result ≡ unwrap_or answer 0) × FindsComponents (listed 64 fact_words labels.now offsets.now targets.now) parts.old.part parts.new.part answer }
 {
     let model = Listed {
         labels,
         offsets,
         targets,
     };
-    components_of(&model, &mut parts.part)
+    // Kept: 0 for none, since an Option does not cross to C.
+    components_of(&model, &mut parts.part).map_or(0, usize::from)
 }

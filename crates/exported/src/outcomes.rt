@@ -12,6 +12,7 @@ use merger::answers::{OpenRefusal, Refusal};
 use modelfile::faults::FaultNumbers;
 use writing::protocol::WriteFault;
 
+// Kept: a plain struct of numbers, since an enum or a Result does not cross to C.
 /// A cause of 0 where the call is accepted, and then how much it wrote.
 #[repr(C)]
 #[derive(Clone, Copy, Debug, PartialEq, Eq)]
@@ -24,6 +25,7 @@ pub struct Outcome {
     pub length: usize,
 }
 
+// Kept: two enums with one variant in common; a generic one would name its variants worse than the calls do.
 // Why a model is not merged.
 #[derive(Clone, Copy)]
 pub enum MergeFault {

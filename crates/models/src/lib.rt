@@ -32,6 +32,7 @@ pub trait Label {
     // at most 64 words, and none at or above the count holds of a label
     ghost lawful: { Lawful count means };
 
+    // Kept: a call beside the constant, since a clause can name no constant of a kind that borrows.
     /// `WORDS`, with the promise that it is the count.
     fn word_count() -> u8
         ensures { result ≡ count };

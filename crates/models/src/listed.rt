@@ -10,6 +10,7 @@ use kripke::{LIMIT, NOWHERE};
 
 // A label for each state, one offset more, and the targets of all rows, one row after the other. Any tables will do:
 // those that do not fit each other have no states, and an offset that is out of order has an empty row.
+// Kept: tables side by side, since they are lent, as files and C programs have them.
 #[derive(Drop)]
 pub struct Listed<'a, L> {
     pub labels: &'a [L],

@@ -6,6 +6,7 @@ use models::facts::Facts;
 use models::listed::Listed;
 use std::alloc::{AllocError, Global};
 
+// Kept: the same three tables as console's, since the second engine shares nothing with the programs.
 /// The tables of a listed model.
 #[derive(Drop)]
 pub struct Tables {

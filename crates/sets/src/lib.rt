@@ -21,6 +21,7 @@ impl Set {
         Set { bits: u128::MAX }
     }
 
+    // Kept: a call with a contract over bits; a From would tell a reader less.
     /// The numbers of the bits that are set, bit 0 the lowest.
     pub fn from_bits(bits: u64) -> Set
         ensures { (j : ℕ) → In result j ↔ ((j < 64) × (bit bits j ≡ 1)) }

@@ -2,7 +2,7 @@
 use checker::steps::Step::{Globally, Not, Or, True, Until, Word};
 use checker::steps::{Malformed, Refused, Step};
 use checker::{Numbers, check as mark_states};
-use examples::{chain, polls};
+use examples::{chain, pair, polls};
 use models::facts::Facts;
 use models::listed::Listed;
 use survey::gaps::Gap;
@@ -41,11 +41,7 @@ fn operators(rt: HostRuntime) {
 
 #[test]
 fn refusals_of_steps(rt: HostRuntime) {
-    let pair = Listed {
-        labels: &[Facts::NONE, Facts::NONE],
-        offsets: &[0, 1, 2],
-        targets: &[1, 0],
-    };
+    let swap = pair();
     // too many, and yet with a word that is not known
     let many = [Word(64); 65];
     let cases: [(&[Step], usize, u8, usize); 10] = [
@@ -66,9 +62,9 @@ fn refusals_of_steps(rt: HostRuntime) {
             place,
             number: 0,
         };
-        assert_eq!(rt; refusal(&pair, steps, marks), Some(told));
+        assert_eq!(rt; refusal(&swap, steps, marks), Some(told));
     }
-    assert_eq!(rt; refusal(&pair, &[True], 2), None);
+    assert_eq!(rt; refusal(&swap, &[True], 2), None);
 }
 
 #[test]

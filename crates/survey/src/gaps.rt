@@ -38,6 +38,7 @@ impl From<GapNumbers> for Numbers<usize> {
 }
 
 impl Gap {
+    // Kept: a call of this name here and in the crates above, since callers know it; a From is no plainer for them.
     /// The numbers that a gap is told by.
     pub fn numbers(self) -> GapNumbers
         ensures { (result.cause ≡ gap_cause self) × ((result.place ≡ gap_place self) × (result.number ≡ gap_move self)) }

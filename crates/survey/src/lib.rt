@@ -15,6 +15,7 @@ pub mod gaps;
 /// The most states that are worked on.
 pub const MOST_STATES: u16 = 128;
 
+// Kept: an array for the most states, since the library takes no heap.
 /// The states that each of 128 states moves to.
 pub type Rows = [Set; 128];
 

@@ -1,9 +1,8 @@
 //! The sweeps: lists from a small alphabet, each given to the cases.
 use crate::cases::Cases;
 use checker::steps::Step;
+use examples::pair;
 use itertools::Itertools;
-use models::facts::Facts;
-use models::listed::Listed;
 use second::lists::lists_up_to;
 use std::alloc::{AllocError, Global};
 
@@ -35,19 +34,15 @@ pub fn all_tables(heap: Global) -> Result<Cases, AllocError> {
 
 /// Lists of up to three steps, with no, one and two marks; and 64 and 65 steps.
 pub fn all_steps(heap: Global) -> Result<Cases, AllocError> {
-    let pair = Listed {
-        labels: &[Facts::NONE, Facts::NONE],
-        offsets: &[0, 1, 2],
-        targets: &[1, 0],
-    };
+    let swap = pair();
     let mut cases = Cases::default();
     let short = lists_up_to(heap, &STEPS, 3)?;
     for (steps, marks) in short.iter().cartesian_product(0..3) {
-        cases.steps(&pair, steps, marks);
+        cases.steps(&swap, steps, marks);
     }
     let long = [Step::True; 65];
-    cases.steps(&pair, &long[..64], 2);
-    cases.steps(&pair, &long, 2);
+    cases.steps(&swap, &long[..64], 2);
+    cases.steps(&swap, &long, 2);
     Ok(cases)
 }
 
