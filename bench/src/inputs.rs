@@ -11,28 +11,30 @@ pub enum Input {
     Tables(Tables),
 }
 
-/// An input with its name, and whether the component search is measured on it.
+/// An input with its name, and its tables where the component search is measured on it too.
 pub struct Named {
     pub name: String,
+    /// Inputs of one family follow each other, each of twice as many states as the one before.
+    pub family: Option<&'static str>,
     pub input: Input,
     pub tables: Option<Tables>,
 }
 
 impl Named {
-    fn file(name: String, model: &Plain) -> Named {
-        Named { name, input: Input::Files(vec![model.file()]), tables: Some(model.tables()) }
+    fn file(name: String, family: Option<&'static str>, model: &Plain) -> Named {
+        Named { name, family, input: Input::Files(vec![model.file()]), tables: Some(model.tables()) }
     }
 }
 
 /// All inputs, the same in each run.
 pub fn all() -> Vec<Named> {
     let sizes = [16, 32, 64, 128];
-    let chains = sizes.map(|n| Named::file(format!("chain of {n}"), &chain(n)));
-    let growing = sizes.map(|n| Named::file(format!("random {n}, 3 moves, 1 word"), &random(n, 3, 1)));
+    let chains = sizes.map(|n| Named::file(format!("chain of {n}"), Some("chain"), &chain(n)));
+    let growing = sizes.map(|n| Named::file(format!("random {n}, 3 moves, 1 word"), Some("random"), &random(n, 3, 1)));
     let others = [(3, 64), (16, 1), (16, 64), (128, 1), (128, 64)];
     let random = others.map(|(moves, words)| {
         let name = format!("random 128, {moves} moves, {words} word{}", if words == 1 { "" } else { "s" });
-        Named::file(name, &random(128, moves, words))
+        Named::file(name, None, &random(128, moves, words))
     });
     chains.into_iter().chain(growing).chain(random).chain([mixed(), long_rows()]).collect()
 }
@@ -75,7 +77,7 @@ fn mixed() -> Named {
         };
         generate::model(&mut dice, size, 50).file()
     });
-    Named { name: "10,000 mixed files".into(), input: Input::Files(files.collect()), tables: None }
+    Named { family: None, name: "10,000 mixed files".into(), input: Input::Files(files.collect()), tables: None }
 }
 
 // Rows of 4,096 moves, which only tables can have.
@@ -84,5 +86,10 @@ fn long_rows() -> Named {
     let labels = (0..128).map(|_| dice.number() & 1).collect();
     let rows = (0..128).map(|_| (0..4_096).map(|_| dice.below(128) as u16).collect()).collect();
     let tables = Plain { labels, rows }.tables();
-    Named { name: "rows of 4,096 moves".into(), input: Input::Tables(tables.clone()), tables: Some(tables) }
+    Named {
+        family: None,
+        name: "rows of 4,096 moves".into(),
+        input: Input::Tables(tables.clone()),
+        tables: Some(tables),
+    }
 }
