@@ -99,7 +99,7 @@ pub fn run_all(inputs: &[Named]) {
 
 /// Panics where two engines do not answer or write the same.
 pub fn assert_equal(inputs: &[Named]) {
-    for Named { name, input, tables } in inputs {
+    for Named { name, input, tables, .. } in inputs {
         let mut memories = ENGINES.map(|engine| (engine, Memory::new()));
         match input {
             Input::Files(files) => {
