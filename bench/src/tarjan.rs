@@ -102,10 +102,10 @@ pub fn by_first_member(group: &[u8]) -> Parts {
     Parts { part, count: count.into() }
 }
 
-/// Writes the components at the front of `part`, and answers how many there are.
-pub fn components(model: Listed<'_>, part: &mut [u8]) -> usize {
+/// Writes each state's component, and answers how many there are.
+pub fn components(model: Listed<'_>, part: &mut [u8; 128]) -> usize {
     let n = model.labels.len();
-    let parts = search(model);
-    part[..n].copy_from_slice(&parts.part[..n]);
-    parts.count
+    let found = search(model);
+    part[..n].copy_from_slice(&found.part[..n]);
+    found.count
 }

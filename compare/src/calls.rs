@@ -208,7 +208,7 @@ pub fn check_tables(tables: Listed<'_>, steps: &[u16], spare: isize, dice: &mut 
 
     let asked = Asked { call: "check_tables", input: &(tables, steps), sizes: &room };
     let (wanted, holds) = match check(&model, steps, room) {
-        Ok(holds) => (Outcome::accepted(found.length), holds),
+        Ok(holds) => (Outcome::accepted(model.size()), holds),
         Err(refused) => (refused, vec![]),
     };
     asked.same("answer", &wanted, &found)?;
@@ -217,14 +217,15 @@ pub fn check_tables(tables: Listed<'_>, steps: &[u16], spare: isize, dice: &mut 
     Ok(found)
 }
 
-/// Finds the components of a model by tables. Cause 0 of what is answered here stands for a search that was made.
-pub fn find_components(tables: Listed<'_>, room: usize, dice: &mut Dice) -> Compared {
+/// Finds the components of a model by tables. Cause 12 of what is answered here stands for too many states.
+pub fn find_components(tables: Listed<'_>, dice: &mut Dice) -> Compared {
     let model = meaning(tables);
-    let mut part = Lent::<u8>::new(room, dice);
-    let found = library::components(tables, part.space());
+    let mut part = Lent::<u8>::new(MOST_STATES, dice);
+    let space = part.space().try_into().expect("so many entries are lent");
+    let found = library::components(tables, space);
 
-    let asked = Asked { call: "components", input: &tables, sizes: &room };
-    let refused = model.size() > MOST_STATES || room < MOST_STATES;
+    let asked = Asked { call: "components", input: &tables, sizes: &MOST_STATES };
+    let refused = model.size() > MOST_STATES;
     let (numbers, count) = if refused { (vec![], 0) } else { components(&model) };
     let numbers: Vec<u8> = numbers.into_iter().map(|c| c as u8).collect();
     asked.same("count", &count, &found)?;

@@ -150,10 +150,8 @@ impl Run<'_> {
             let compared = merge_tables(tables, spare, &mut self.dice);
             self.note(input, "merge_tables", compared)?;
         }
-        for room in [128, 140, 127, 0] {
-            let compared = find_components(tables, room, &mut self.dice);
-            self.note(input, "components", compared)?;
-        }
+        let compared = find_components(tables, &mut self.dice);
+        self.note(input, "components", compared)?;
         self.formula(input, tables)
     }
 

@@ -105,8 +105,7 @@ mod raw {
             offsets_len: usize,
             targets: *const u16,
             targets_len: usize,
-            part: *mut u8,
-            part_len: usize,
+            part: *mut [u8; 128],
         ) -> usize;
     }
 }
@@ -188,8 +187,9 @@ pub fn check_tables(model: Listed<'_>, steps: &[u16], marks: &mut [u8]) -> Outco
     }
 }
 
-/// Writes each state's component at the front of `part`, and answers how many there are.
-pub fn components(model: Listed<'_>, part: &mut [u8]) -> usize {
+/// Writes each state's component at the front of `part`, and answers how many there are; 0 where there are more than 128
+/// states. The library has a struct of so many bytes there.
+pub fn components(model: Listed<'_>, part: &mut [u8; 128]) -> usize {
     let Listed { labels, offsets, targets } = model;
     unsafe {
         raw::tulavemin_components(
@@ -199,8 +199,7 @@ pub fn components(model: Listed<'_>, part: &mut [u8]) -> usize {
             offsets.len(),
             targets.as_ptr(),
             targets.len(),
-            part.as_mut_ptr(),
-            part.len(),
+            part,
         )
     }
 }
