@@ -92,9 +92,28 @@ pub fn merge_tables(rounds: Rounds, model: Listed<'_>, text: &mut [u8]) -> Outco
             let number = row.iter().position(|&t| usize::from(t) >= n).unwrap_or(0);
             return Outcome::refused(3, 14, s, number as u16);
         }
-        rows[s] = row.iter().fold(0, |bits, &t| bits | ONE[usize::from(t) % MOST]);
+        rows[s] = target_bits(row);
     }
     merge(rounds, labels, &rows, text)
+}
+
+#[inline(always)]
+fn target_bits(row: &[u16]) -> Bits {
+    row.iter().fold(0, |bits, &t| bits | ONE[usize::from(t) % MOST])
+}
+
+/// Writes each state's component, of a model by well-formed tables whose moves all go to states, and answers how many
+/// there are.
+pub fn components(model: Listed<'_>, part: &mut [u8; MOST]) -> usize {
+    let Listed { labels, offsets, targets } = model;
+    let mut rows = [0; MOST];
+    for (row, ends) in rows.iter_mut().zip(offsets.windows(2)) {
+        *row = target_bits(&targets[ends[0] as usize..ends[1] as usize]);
+    }
+    let found = search(&rows, &alike(labels));
+    let numbered = by_first_member(&found.of_state[..labels.len()]);
+    part[..labels.len()].copy_from_slice(&numbered.part[..labels.len()]);
+    numbered.count
 }
 
 fn merge(rounds: Rounds, labels: &[Facts], rows: &[Bits; MOST], text: &mut [u8]) -> Outcome {

@@ -3,7 +3,7 @@ use crate::bitsets;
 use crate::inputs::{Input, Named};
 use crate::matrices::Workspace;
 use crate::tarjan;
-use compare::library::{self, Facts, Outcome, Room};
+use compare::library::{self, Facts, Listed, Outcome, Room};
 use std::hint::black_box;
 
 /// Who does a job.
@@ -16,6 +16,10 @@ pub enum Engine {
 }
 
 pub const ENGINES: [Engine; 4] = [Engine::Library, Engine::Matrices, Engine::Rounds, Engine::Bitsets];
+
+/// The searches for components: the library's, the textbook's, and one with sets.
+pub const SEARCHES: [fn(Listed<'_>, &mut [u8; 128]) -> usize; 3] =
+    [library::components, tarjan::components, bitsets::components];
 
 /// The memory that is lent: made and filled before anything is measured, and not cleared between the calls.
 struct Memory {
@@ -81,7 +85,7 @@ pub extern "C" fn measured_job(job: &mut Job<'_>) {
 /// A job to measure.
 pub struct Job<'a>(&'a mut dyn FnMut());
 
-/// Runs all jobs once each: on each input the engines in their order, and then the two searches for components.
+/// Runs all jobs once each: on each input the engines in their order, and then the searches for components.
 pub fn run_all(inputs: &[Named]) {
     let mut memory = Memory::new();
     for Named { input, tables, .. } in inputs {
@@ -91,8 +95,9 @@ pub fn run_all(inputs: &[Named]) {
         if let Some(tables) = tables {
             let mut part = [0; 128];
             let model = tables.listed();
-            measured_job(&mut Job(&mut || _ = black_box(library::components(model, &mut part))));
-            measured_job(&mut Job(&mut || _ = black_box(tarjan::components(model, &mut part))));
+            for search in SEARCHES {
+                measured_job(&mut Job(&mut || _ = black_box(search(model, &mut part))));
+            }
         }
     }
 }
@@ -108,10 +113,11 @@ pub fn assert_equal(inputs: &[Named]) {
             Input::Tables(_) => same(name, &mut memories, |memory, engine| memory.run(engine, input)),
         }
         if let Some(tables) = tables {
-            let (mut one, mut other) = ([0; 128], [0; 128]);
-            let found = library::components(tables.listed(), &mut one);
-            let wanted = tarjan::components(tables.listed(), &mut other);
-            assert!(found == wanted && one == other, "the components differ on {name}");
+            let found = SEARCHES.map(|search| {
+                let mut part = [0; 128];
+                (search(tables.listed(), &mut part), part)
+            });
+            assert!(found.iter().all(|answer| *answer == found[0]), "the components differ on {name}");
         }
     }
 }

@@ -1,7 +1,7 @@
 //! The tables of counts and ratios.
 use crate::counts::{Dumps, Taken};
 use crate::inputs::Named;
-use crate::jobs::{assert_equal, ENGINES};
+use crate::jobs::{assert_equal, ENGINES, SEARCHES};
 use std::error::Error;
 use std::fmt::{self, Write};
 
@@ -12,7 +12,7 @@ struct Measured<'a> {
     input: &'a Named,
     // the library's, and then the engines'
     whole: Vec<Taken>,
-    // the library's, and then the textbook's
+    // the library's, and then the others'
     search: Vec<Taken>,
 }
 
@@ -27,7 +27,7 @@ impl Report<'_> {
         let mut take = |count| jobs.by_ref().take(count).map(|job| dumps.taken(job)).collect::<Result<Vec<_>, _>>();
         let measured = inputs.iter().map(|input| {
             let whole = take(ENGINES.len())?;
-            let search = take(if input.tables.is_some() { 2 } else { 0 })?;
+            let search = take(if input.tables.is_some() { SEARCHES.len() } else { 0 })?;
             Ok(Measured { input, whole, search })
         });
         measured.collect::<Result<_, _>>().map(Report)
@@ -41,7 +41,7 @@ impl Report<'_> {
             line(&mut text, &input.name, whole)?;
         }
         text.push('\n');
-        head(&mut text, "components", &["library", "textbook"])?;
+        head(&mut text, "components", &["library", "textbook", "sets"])?;
         for Measured { input, search, .. } in self.0.iter().filter(|measured| !measured.search.is_empty()) {
             line(&mut text, &input.name, search)?;
         }

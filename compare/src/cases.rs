@@ -16,6 +16,7 @@ const JOBS: [Job; 2] = [Job::Listing, Job::Reduced];
 /// Compares on all inputs.
 pub fn all(tally: &mut Tally) -> Result<(), Difference> {
     let mut run = Run { tally, dice: Dice::new(SEED) };
+    run.small_models()?;
     run.valid_files()?;
     run.short_files()?;
     run.damaged_files()?;
@@ -59,6 +60,15 @@ impl Run<'_> {
                 let compared = on_file(job, file, &expected, rooms, room, &mut self.dice);
                 self.note(input, name(job), compared)?;
             }
+        }
+        Ok(())
+    }
+
+    // All models of at most three states with one word, to all calls.
+    fn small_models(&mut self) -> Result<(), Difference> {
+        for model in (1..=3).flat_map(generate::every_model) {
+            self.file("every small model", &model.file(), AMPLE)?;
+            self.by_tables("every small model", model.tables().listed())?;
         }
         Ok(())
     }

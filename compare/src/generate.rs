@@ -45,6 +45,23 @@ fn row(dice: &mut Dice, style: usize, size: usize, s: usize) -> Vec<u16> {
     row
 }
 
+/// All total models of so many states in which word 0 holds or not: rows are all sets of states that are not empty.
+pub fn every_model(size: usize) -> impl Iterator<Item = Plain> {
+    let sets = (1 << size) - 1;
+    let label_choices = 1 << size;
+    let row_choices = (0..size).fold(1, |choices, _| choices * sets);
+    (0..label_choices).flat_map(move |label_bits: usize| {
+        (0..row_choices).map(move |choice: usize| {
+            let set_of = |s: usize| (0..s).fold(choice, |rest, _| rest / sets) % sets + 1;
+            let row = |s: usize| (0..size).filter(|t| set_of(s) >> t & 1 == 1).map(|t| t as u16).collect();
+            Plain {
+                labels: (0..size).map(|s| (label_bits >> s & 1) as u64).collect(),
+                rows: (0..size).map(row).collect(),
+            }
+        })
+    })
+}
+
 /// A size, most often small.
 pub fn size(dice: &mut Dice) -> usize {
     match dice.below(20) {
