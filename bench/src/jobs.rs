@@ -1,5 +1,6 @@
 //! The jobs that are measured: each engine on each input, and the answers that they must share.
 use crate::bitsets;
+use crate::classes;
 use crate::inputs::{Input, Named};
 use crate::matrices::Workspace;
 use crate::tarjan;
@@ -53,8 +54,8 @@ impl Memory {
         match engine {
             Engine::Library => library::merge_file(file, room, &mut self.text),
             Engine::Matrices => self.work.merge_file(file, room, &mut self.text),
-            Engine::Rounds => bitsets::merge_file(bitsets::all_over, file, room, &mut self.text),
-            Engine::Bitsets => bitsets::merge_file(bitsets::where_parted, file, room, &mut self.text),
+            Engine::Rounds => bitsets::merge_file(classes::all_over, file, room, &mut self.text),
+            Engine::Bitsets => bitsets::merge_file(classes::where_parted, file, room, &mut self.text),
         }
     }
 
@@ -66,8 +67,8 @@ impl Memory {
                 match engine {
                     Engine::Library => library::merge_tables(model, text),
                     Engine::Matrices => self.work.merge_tables(model, text),
-                    Engine::Rounds => bitsets::merge_tables(bitsets::all_over, model, text),
-                    Engine::Bitsets => bitsets::merge_tables(bitsets::where_parted, model, text),
+                    Engine::Rounds => bitsets::merge_tables(classes::all_over, model, text),
+                    Engine::Bitsets => bitsets::merge_tables(classes::where_parted, model, text),
                 }
             }
         }

@@ -1,5 +1,7 @@
 //! Measures the static library against engines in plain Rust, by instructions, on the same inputs in one run.
+mod bits;
 mod bitsets;
+mod classes;
 mod counts;
 mod inputs;
 mod jobs;
@@ -9,6 +11,7 @@ mod page;
 mod reading;
 mod report;
 mod tarjan;
+mod walk;
 
 use report::Report;
 use std::error::Error;
