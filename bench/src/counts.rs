@@ -60,9 +60,10 @@ impl Taken {
         self.functions.iter().map(|(_, count)| count).sum()
     }
 
-    /// The ten functions that took the most.
+    /// The ten functions that took the most, without those that took less than one in two hundred.
     pub fn most(&self) -> impl Iterator<Item = &(String, u64)> {
-        self.functions.iter().take(10)
+        let least = self.instructions() / 200;
+        self.functions.iter().take(10).filter(move |(_, count)| *count >= least)
     }
 }
 

@@ -6,7 +6,6 @@ use compare::library::Listed;
 use compare::plain::{Plain, Tables};
 use compare::reading::Rooms;
 
-const SEED: u64 = 20;
 /// Tables that take any file.
 const AMPLE: Rooms = Rooms { labels: 4_096, offsets: 4_097, targets: 32_767 };
 /// Tables that take a model of a few states.
@@ -14,8 +13,8 @@ const SCANT: Rooms = Rooms { labels: 5, offsets: 5, targets: 4 };
 const JOBS: [Job; 2] = [Job::Listing, Job::Reduced];
 
 /// Compares on all inputs.
-pub fn all(tally: &mut Tally) -> Result<(), Difference> {
-    let mut run = Run { tally, dice: Dice::new(SEED) };
+pub fn all(tally: &mut Tally, seed: u64) -> Result<(), Difference> {
+    let mut run = Run { tally, dice: Dice::new(seed) };
     run.small_models()?;
     run.valid_files()?;
     run.short_files()?;
