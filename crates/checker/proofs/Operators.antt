@@ -1,10 +1,14 @@
 -- Truth carried over to other moves and other operands, among the states below n.
-use Rattle.std.proofs.Common.{ℕ, zero, suc, ◌<◌, ◌≤◌, ◌↔◌, inl, inr, ⊎_elim, arith}
+use Rattle.std.proofs.Common.{ℕ, zero, suc, ◌<◌, ◌≤◌, ◌↔◌, List, inl, inr, ⊎_elim, arith}
 use Rattle.kripke.specs.Words.{Words}
-use Rattle.kripke.specs.Paths.{Until as Ends, Stays}
+use Rattle.kripke.specs.Models.{Frame}
+use Rattle.kripke.specs.Paths.{Move, Until as Ends, Stays}
+use Rattle.sets.specs.declared.Set.{Set}
+use Rattle.survey.specs.Gaps.{Linked}
 use Rattle.checker.specs.declared.steps.Step.{Step}
 use Rattle.checker.specs.declared.steps.Step.TheVariants.{True, Word, Not, Or, Until, Globally}
 use Rattle.checker.specs.Reading.{takes}
+use Rattle.checker.specs.Tables.{Goes}
 use Rattle.checker.specs.Marks.{TrueAt}
 
 -- from a state below n, a move by R is one by R', and goes to a state below n
@@ -51,3 +55,10 @@ step_over n R R' to from words P P' Q Q' Globally p q s h =
       stays-over n R R' to P P' (λ t l. (e t l).0) n s h,
       stays-over n R' R from P' P (λ t l. (e t l).1) n s h,
     )
+
+-- by the moves of a table a step is true where it is by the moves of the frame
+pub table_over : (F : Frame) (rows : List Set) → Linked F rows → (words : ℕ → Words) (P Q : ℕ → Type 0) (x : Step) →
+    SameAt F.size (TrueAt (Goes rows) F.size words x P Q) (TrueAt (Move F) F.size words x P Q)
+table_over F rows linked words P Q x =
+    step_over F.size (Goes rows) (Move F) (λ a b l p. let v = (linked.states a l b).0 p in (v.2, v)) (λ a b l p. (p.2, (linked.states a l b).1 p))
+    words P P Q Q x (λ _ s h. (λ p. p, λ p. p)) (λ _ s h. (λ p. p, λ p. p))

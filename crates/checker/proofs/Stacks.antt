@@ -6,12 +6,10 @@ use Rattle.sets.specs.Sets.{In, none}
 use Rattle.kripke.specs.Models.{Kripke}
 use Rattle.kripke.specs.Paths.{Move}
 use Rattle.kripke.specs.Formulas.{Formula, Holds, top}
-use Rattle.survey.specs.Gaps.{Linked}
 use Rattle.checker.specs.declared.steps.Step.{Step}
 use Rattle.checker.specs.declared.steps.Step.TheVariants.{True, Word, Not, Or, Until, Globally}
 use Rattle.checker.specs.Steps.{Denotes}
 use Rattle.checker.specs.Reading.{takes, left_by, step_at}
-use Rattle.checker.specs.Tables.{Goes}
 use Rattle.checker.specs.Marks.{SetIs, TrueAt}
 use Rattle.checker.proofs.Counts.{operands-all}
 use Rattle.checker.proofs.Operators.{step_over}
@@ -43,18 +41,16 @@ stands M steps i operands st =
     let e = as_many M st.fs operands.held st.sets in
     (sym e ∙ st.reads.count, omega (arith, e, st.reads.few))
 
-module _ (M : Kripke) (rows : List Set) (linked : Linked M.frame rows) where
+module _ (M : Kripke) where
   -- the set has the states where a step is true of the sets of its operands
   abbrev Made : Step → (x y v : Set) → Type 0
-  Made step x y v = (s : ℕ) → s < M.frame.size → In v s ↔ TrueAt (Goes rows) M.frame.size M.labels.words step (In x) (In y) s
+  Made step x y v = (s : ℕ) → s < M.frame.size → In v s ↔ TrueAt (Move M.frame) M.frame.size M.labels.words step (In x) (In y) s
 
   -- it has those where the step is true of their formulas
   made-is : (step : Step) (f g : Formula) (x y v : Set) → (1 ≤ takes step → SetIs M f x) → (2 ≤ takes step → SetIs M g y) → Made step x y v →
       (s : ℕ) → s < M.frame.size → In v s ↔ TrueAt (Move M.frame) M.frame.size M.labels.words step (Holds M f) (Holds M g) s
   made-is step f g x y v p q made s h =
-      let over = step_over M.frame.size (Goes rows) (Move M.frame)
-      (λ a b l p. let v = (linked.states a l b).0 p in (v.2, v)) (λ a b l p. (p.2, (linked.states a l b).1 p))
-      M.labels.words (In x) (Holds M f) (In y) (Holds M g) step p q s h in
+      let over = step_over M.frame.size (Move M.frame) (Move M.frame) (λ a b l p. (p.2, p)) (λ a b l p. (p.2, p)) M.labels.words (In x) (Holds M f) (In y) (Holds M g) step p q s h in
       (λ i. over.0 ((made s h).0 i), λ i. (made s h).1 (over.1 i))
 
   sets-after : (step : Step) (fs : List Formula) (xs : List Set) (v : Set) → takes step ≤ length fs → SetsAre M fs xs →

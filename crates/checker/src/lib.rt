@@ -9,11 +9,10 @@ ghost use Rattle.checker.specs.Claims.{OneFormula, ReadableFormulas, OneRefusal}
 
 use crate::reading::read;
 use crate::steps::{Malformed, Refused, Step};
-use crate::truth::truth;
+use crate::truth::Field;
 use models::Model;
 use sets::Set;
-use survey::gaps::Gap;
-use survey::{gaps, rows_of};
+use survey::gaps::{self, Gap};
 
 mod reading;
 mod spread;
@@ -90,12 +89,12 @@ fn mark(set: Set, n: usize, marks: &mut [u8])
 pub fn check<M: Model>(model: &M, steps: &[Step], marks: &mut [u8]) -> Result<(), Refused>
     ensures { MatchResult result (λ _. Checked (M.Model.means model.now) steps.now marks.old marks.new) (λ why. Refuses (M.Model.means model.now) steps.now (length marks.old) why × (marks.new ≡ marks.old)) }
 {
-    let rows = rows_of(model)?;
+    let field = Field::of(model)?;
     read(steps, model.words())?;
     let n = model.size() as usize;
     if marks.len() < n {
         return Err(Refused::ShortMarks);
     }
-    mark(truth(model, &rows, steps), n, marks);
+    mark(field.truth(steps), n, marks);
     Ok(())
 }

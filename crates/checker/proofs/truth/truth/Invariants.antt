@@ -1,5 +1,0 @@
-use Rattle.checker.proofs.Stacks.{Stacked}
-use Rattle.checker.proofs.truth.truth.Given as goal
-
-abbrev pub invariant-loop-step : goal.invariant-loop-step
-invariant-loop-step g l = Stacked (g.M.Model.means l.model) l.steps l.step-index l.operands
