@@ -52,12 +52,6 @@ width_more n h = rw (code_more n h) (omega arith)
 pub code_some : (n : ℕ) → 0 < length (code n)
 code_some = by_bytes (λ n. 0 < length (code n)) (λ n a. rw (code_last n a) (omega arith)) (λ n a ih. rw (code_more n a) (omega arith))
 
-pub length-code : (n : ℕ) → length (code n) ≤ n + 1
-length-code =
-    by_bytes (λ n. length (code n) ≤ n + 1)
-    (λ n a. rw (code_last n a) (omega arith))
-    (λ n a ih. rw (code_more n a) (omega arith))
-
 code_within : (k n : ℕ) → n < 128 ^ (k + 1) → length (code n) ≤ k + 1
 code_within zero n h = omega (arith, width_last n h)
 code_within (suc k) n h =

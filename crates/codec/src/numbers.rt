@@ -1,5 +1,5 @@
 //! Numbers as a file has them: seven bits to a byte, the lowest group first, in the fewest bytes.
-ghost use Rattle.std.specs.Prelude.{◌≡◌, ℕ, ◌+◌, ◌^◌, length, drop, nat_lt, IfSome, MatchResult};
+ghost use Rattle.std.specs.Prelude.{◌≡◌, ℕ, ◌+◌, ◌++◌, ◌^◌, length, drop, nat_lt, IfSome, MatchResult};
 ghost use Rattle.std.specs.List.{list_any};
 ghost use Rattle.codec.specs.Numbers.{code, codes, counted, EachCodeIsShortest};
 ghost use Rattle.codec.specs.Pieces.{Writes};
@@ -171,15 +171,23 @@ impl Series for Numbers<'_> {
 #[derive(Clone, Copy, Debug, PartialEq, Eq)]
 pub struct Counted<'a>(pub &'a [u16]);
 
+impl Counted<'_> {
+    fn parts(&self) -> (Number, All<Numbers<'_>>)
+        ensures { code result.0.0 ++ codes result.1.0.0.now ≡ codes (counted self.now.0.now) }
+    {
+        (Number(self.0.len() as u64), All(Numbers(self.0)))
+    }
+}
+
 impl Piece for Counted<'_> {
     ghost bytes = { λ n. codes (counted n.0.now) };
 
     fn width_within(&self, most: usize) -> Option<usize> {
-        (Number(self.0.len() as u64), All(Numbers(self.0))).width_within(most)
+        self.parts().width_within(most)
     }
 
     fn put(&self, space: &mut [u8]) -> usize {
-        (Number(self.0.len() as u64), All(Numbers(self.0))).put(space)
+        self.parts().put(space)
     }
 }
 

@@ -1,5 +1,5 @@
 //! Lines of text: a name, and numbers in decimal.
-ghost use Rattle.std.specs.Prelude.{◌≡◌, ◌∷◌, [], length, decimal};
+ghost use Rattle.std.specs.Prelude.{◌≡◌, ◌∷◌, ◌++◌, [], length, decimal};
 ghost use Rattle.std.specs.List.{flat_map};
 ghost use Rattle.codec.specs.Texts.{field, line};
 
@@ -38,15 +38,23 @@ impl Piece for Decimal {
 #[derive(Clone, Copy, Debug, PartialEq, Eq)]
 pub struct Field(pub u64);
 
+impl Field {
+    fn spaced(&self) -> (Byte, Decimal)
+        ensures { result.0.0 ∷ decimal result.1.0 ≡ field self.now.0 }
+    {
+        (Byte(b' '), Decimal(self.0))
+    }
+}
+
 impl Piece for Field {
     ghost bytes = { λ f. field f.0 };
 
     fn width_within(&self, most: usize) -> Option<usize> {
-        (Byte(b' '), Decimal(self.0)).width_within(most)
+        self.spaced().width_within(most)
     }
 
     fn put(&self, space: &mut [u8]) -> usize {
-        (Byte(b' '), Decimal(self.0)).put(space)
+        self.spaced().put(space)
     }
 }
 
@@ -71,14 +79,22 @@ impl Series for Fields<'_> {
 #[derive(Clone, Copy, Debug, PartialEq, Eq)]
 pub struct Line<'a, N>(pub N, pub &'a [u64]);
 
+impl<N: Piece> Line<'_, N> {
+    fn parts(&self) -> ((&N, All<Fields<'_>>), Byte)
+        ensures { (N.bytes result.0.0.now ++ flat_map field result.0.1.0.0.now) ++ (result.1.0 ∷ []) ≡ line (N.bytes self.now.0) self.now.1.now }
+    {
+        ((&self.0, All(Fields(self.1))), Byte(b'\n'))
+    }
+}
+
 impl<N: Piece> Piece for Line<'_, N> {
     ghost bytes = { λ l. line (N.bytes l.0) l.1.now };
 
     fn width_within(&self, most: usize) -> Option<usize> {
-        ((&self.0, All(Fields(self.1))), Byte(b'\n')).width_within(most)
+        self.parts().width_within(most)
     }
 
     fn put(&self, space: &mut [u8]) -> usize {
-        ((&self.0, All(Fields(self.1))), Byte(b'\n')).put(space)
+        self.parts().put(space)
     }
 }

@@ -1,7 +1,9 @@
 //! The lines of a listing: counts with their names, and states with their classes.
-ghost use Rattle.std.specs.Prelude.{◌-◌, [], ◌∷◌, drop};
+ghost use Rattle.std.specs.Prelude.{◌≡◌, ◌-◌, [], ◌∷◌, drop};
 ghost use Rattle.codec.specs.Texts.{line};
 ghost use Rattle.exchange.specs.Listings.{class_in, members, states_in, text_of};
+
+use core::slice::from_ref;
 
 use codec::pieces::{Piece, Series};
 use codec::text::{Decimal, Line};
@@ -11,15 +13,23 @@ use merger::analysis::Analysis;
 #[derive(Clone, Copy)]
 pub struct Entry<N>(pub N, pub u64);
 
+impl<N: Piece> Entry<N> {
+    fn line(&self) -> Line<'_, &N>
+        ensures { line (N.bytes result.0.now) result.1.now ≡ line (N.bytes self.now.0) (self.now.1 ∷ []) }
+    {
+        Line(&self.0, from_ref(&self.1))
+    }
+}
+
 impl<N: Piece> Piece for Entry<N> {
     ghost bytes = { λ e. line (N.bytes e.0) (e.1 ∷ []) };
 
     fn width_within(&self, most: usize) -> Option<usize> {
-        Line(&self.0, &[self.1]).width_within(most)
+        self.line().width_within(most)
     }
 
     fn put(&self, space: &mut [u8]) -> usize {
-        Line(&self.0, &[self.1]).put(space)
+        self.line().put(space)
     }
 }
 

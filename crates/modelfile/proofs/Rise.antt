@@ -14,15 +14,6 @@ rising_none k h = absurd (omega arith)
 pub rising_one : (t : ℕ) → Rising (t ∷ [])
 rising_one t k h = absurd (omega arith)
 
--- any front of a row that rises does
-pub rising_take : (n : ℕ) (row : List ℕ) → Rising row → Rising (take n row)
-rising_take n row r k h =
-    let long = length-take n row in
-    let step = r k (omega arith) in
-    let first = get_or-take n row k nowhere (omega arith) in
-    let second = get_or-take n row (suc k) nowhere (omega arith) in
-    omega arith
-
 pub rising_front : (ts : List ℕ) (t : ℕ) → Rising (ts ++ (t ∷ [])) → Rising ts
 rising_front ts t r k h =
     let long = length_push ts t in

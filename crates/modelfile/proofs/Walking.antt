@@ -47,11 +47,6 @@ module _ (t : Room) (file : List ℕ) where
   pub started : Reached t file at_size 0
   started = record { inside = omega arith; right = tt; text = refl }
 
-  -- N is read
-  pub labels_none : (n next : ℕ) → Stands file 0 n next → Sized n → HoldsStates t n → Reached t file (at_label n []) next
-  labels_none n next there sized held =
-      onward at_size (at_label n []) 0 n next started there (record { sized = sized; held = held; few = omega arith; wide = tt }) refl
-
 -- what a reader has read, one number on
 module _ (r q : Reader) (same : SameFile r q) where
   -- the spot that it comes to
@@ -72,30 +67,6 @@ module _ (r q : Reader) (same : SameFile r q) where
             (onward r.room r.file.now (at_label r.states read.labels) (at_label r.states (read.labels ++ (x ∷ []))) r.at facts q.at read.reached there
             (record { sized = right.sized; held = right.held; few = omega arith; wide = All-push Wide read.labels x right.wide there.small })
             (ap (λ ns. r.states ∷ ns) (sym (map_push (λ (y : Facts). y.bits) read.labels x)))));
-      }
-
-  -- the degree of the next row is read
-  pub targets_none : (count degree : ℕ) → RowsRead r count → count < r.states → Stands r.file.now r.at degree q.at → degree ≤ r.states → q.targets ≡ r.targets → TargetsRead q count degree 0 0
-  targets_none count degree read more there ranged targets =
-      let sized = read.sized in
-      let many = read.many in
-      let counted' = read.counted in
-      let states = same.states in
-      let right = read.reached.right in
-      let held = right.held in
-      record {
-        labels = read.labels;
-        rows = read.rows;
-        targets = [];
-        sized = omega arith;
-        many = many;
-        counted = omega arith;
-        given = refl;
-        lowest = lowest-none;
-        reached = comes_to (at_target read.labels read.rows degree [])
-            (onward r.room r.file.now (at_degree read.labels read.rows) (at_target read.labels read.rows degree []) r.at degree q.at read.reached there
-            (record { complete = right; next = omega arith; ranged = omega arith; few = omega arith; rising = record { rises = rising_none; below = tt }; held = omega arith })
-            refl);
       }
 
   -- one target more is read
@@ -135,12 +106,6 @@ module _ (r q : Reader) (same : SameFile r q) where
 
 -- what a reader has read, seen otherwise
 module _ (r : Reader) where
-  -- N alone is read
-  pub size_place : LabelsRead r 0 → r.at ≡ length (codes (r.states ∷ []))
-  size_place read =
-      place_is r.room r.file.now (at_label r.states read.labels) r.at read.reached
-      ∙ ap (λ labels. length (codes (r.states ∷ bits_of labels))) (nil_from_length read.labels read.many)
-
   -- all labels are read, and rows come next
   pub rows_none : LabelsRead r r.states → RowsRead r 0
   rows_none read =

@@ -56,24 +56,6 @@ set_holds was is facts before after wide done labels holds =
       text = on ∙ (codes_push (was.sets.states ∷ bits_of labels) facts.bits ∙ ap (λ ns. codes (was.sets.states ∷ ns)) (sym (map_push (λ (x : Facts). x.bits) labels facts)));
     })
 
-pub turned_holds : (was : Sets) (is : Rows) → Turned was is → (buffer : List ℕ) (labels : List Facts) → SetsHold buffer was labels → RowsHold buffer is labels []
-turned_holds was is done buffer labels holds =
-    let full = done.full in
-    let count = holds.count in
-    let few = holds.few in
-    let all : length labels ≡ was.sets.states = omega arith in
-    subst (λ w. RowsHold buffer w labels []) (sym done.state) (record {
-      sized = holds.sized;
-      all = all;
-      count = refl;
-      few = omega arith;
-      wide = holds.wide;
-      rising = tt;
-      inside = holds.inside;
-      short = holds.short;
-      text = holds.text ∙ (ap (λ n. codes (n ∷ bits_of labels)) (sym all) ∙ ap codes (sym (append-nil (length labels ∷ bits_of labels))));
-    })
-
 pub row_holds : (was is : Rows) (row before after : List ℕ) → RowDone was row before after is → (labels : List Facts) (rows : List (List ℕ)) → RowsHold before was labels rows → RowsHold after is labels (rows ++ (row ∷ []))
 row_holds was is row before after done labels rows holds =
     let space = done.space in
@@ -93,22 +75,3 @@ row_holds was is row before after done labels rows holds =
       short = space.1;
       text = on ∙ (sym (joined-append code (numbers labels rows) (counted row)) ∙ ap codes (numbers_push labels rows row));
     })
-
-pub closed_files : (was : Rows) (len : ℕ) → len ≡ was.rows.len → was.rows.states ≤ was.rows.given → (buffer : List ℕ) (labels : List Facts) (rows : List (List ℕ)) → RowsHold buffer was labels rows → Filed buffer len labels rows
-closed_files was len e full buffer labels rows holds =
-    let count = holds.count in
-    let few = holds.few in
-    let all = holds.all in
-    let inside = holds.inside in
-    let short = holds.short in
-    record {
-      valid = record {
-        sized = subst (λ n. (1 ≤ n) × (n ≤ 4096)) (sym all) holds.sized;
-        wide = holds.wide;
-        each = omega arith;
-        rising = subst (λ n. AllByRecursion (RisingRow n) rows) (sym all) holds.rising;
-      };
-      inside = omega arith;
-      short = omega arith;
-      text = ap (λ k. take k buffer) e ∙ holds.text;
-    }

@@ -52,9 +52,6 @@ pub record RowsMeasured (M : Kripke) (space count len : ℕ) : Type 0 where
   pub long : len ≡ length (file_of labels (take count (rows_of M)))
   pub fits : len ≤ space
 
-pub measured_none : (M : Kripke) (space len : ℕ) (labels : List Facts) → Labels M labels → len ≡ length (codes (M.frame.size ∷ bits_of labels)) → len ≤ space → RowsMeasured M space 0 len
-measured_none M space len labels are e fits = record { labels = labels; are = are; rising = tt; long = e ∙ ap length (file_none labels M.frame.size are.many); fits = fits }
-
 pub measured_more : (M : Kripke) (space count len wide : ℕ) → count < M.frame.size → RowsMeasured M space count len → RisingRow M.frame.size (M.frame.row count) → wide ≡ length (codes (counted (M.frame.row count))) → wide ≤ space - len → RowsMeasured M space (count + 1) (len + wide)
 measured_more M space count len wide h old rises e left =
     let long = old.long in
@@ -66,10 +63,6 @@ measured_more M space count len wide h old rises e left =
       long = omega (arith, file_longer M old.labels count h);
       fits = omega arith;
     }
-
--- the labels alone do not fit
-pub labels_over : (M : Kripke) (space len : ℕ) (labels : List Facts) → Sized M.frame.size → Labels M labels → len ≡ length (codes (M.frame.size ∷ bits_of labels)) → space < len → TooShort M space
-labels_over M space len labels sized are e over = record { sized = sized; labels = labels; are = are; upto = 0; rising = tt; over = omega (arith, ap length (file_none labels M.frame.size are.many)) }
 
 -- the next row is refused
 pub row_refused_lem : (M : Kripke) (space count len : ℕ) (fault : WriteFault) → Sized M.frame.size → count < M.frame.size → RowsMeasured M space count len → RowRefused (M.frame.row count) M.frame.size (space - len) fault → SaveFault M space fault
