@@ -1,18 +1,18 @@
 -- One number more of a file is read, and is right.
 use Rattle.std.proofs.Common.{◌≡◌, ℕ, ◌+◌, ◌<◌, ◌≤◌, List, [], ◌∷◌, ◌++◌, length, take, sym, refl, ap, ◌∙◌, subst, inr, arith}
 use Rattle.std.proofs.ByRecursion.{All-push}
-use Rattle.std.proofs.lemmas.List.{append_assoc, append-nil, flat_map_more, length-append, length_push, length-take-le, map_push, nil_from_length, take_all}
+use Rattle.std.proofs.lemmas.List.{append_assoc, append-nil, flat_map_more, length-append, length_push, length-take-le, map_push, take_all}
 use Rattle.kripke.specs.Reduced.{Rising}
 use Rattle.models.specs.declared.facts.Facts.{Facts}
 use Rattle.codec.specs.Numbers.{code, codes, counted}
 use Rattle.codec.specs.Reading.{Stands}
-use Rattle.modelfile.specs.Files.{bits_of, numbers, longest, Sized, RisingRow, Wide, targets_of}
-use Rattle.modelfile.specs.FirstFault.{Spot, at_size, at_label, at_degree, at_target, before, Right, RightLabels, HoldsStates, Reached, Fails, FirstFault, Denotes}
+use Rattle.modelfile.specs.Files.{bits_of, numbers, longest, RisingRow, Wide, targets_of}
+use Rattle.modelfile.specs.FirstFault.{Spot, at_size, at_label, at_degree, at_target, before, Right, RightLabels, Reached, Fails, FirstFault, Denotes}
 use Rattle.modelfile.specs.Walks.{SameFile, LabelsRead, RowsRead, TargetsRead}
 use Rattle.modelfile.specs.declared.faults.FileFault.{FileFault}
 use Rattle.modelfile.specs.declared.scan.Room.{Room}
 use Rattle.modelfile.specs.declared.scan.Reader.{Reader}
-use Rattle.modelfile.proofs.Rise.{lowest_more, lowest-none, rising_none}
+use Rattle.modelfile.proofs.Rise.{lowest_more}
 
 pub codes_push : (ns : List ℕ) (n : ℕ) → codes ns ++ code n ≡ codes (ns ++ (n ∷ []))
 codes_push ns n = flat_map_more code [] ns n
