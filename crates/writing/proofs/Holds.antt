@@ -1,6 +1,5 @@
 -- What the buffer holds after each call of a writing.
-use Rattle.std.proofs.Common.{◌≡◌, ℕ, ◌+◌, ◌≤◌, List, [], ◌∷◌, ◌++◌, length, take, sym, refl, ap, ◌∙◌, subst, zero-add, arith}
-use Rattle.std.specs.List.{AllByRecursion}
+use Rattle.std.proofs.Common.{◌≡◌, ℕ, ◌+◌, List, [], ◌∷◌, ◌++◌, length, take, sym, refl, ap, ◌∙◌, subst, zero-add, arith}
 use Rattle.std.proofs.ByRecursion.{All-push}
 use Rattle.std.proofs.lemmas.List.{append-nil, length_push, map_push}
 use Rattle.models.specs.declared.facts.Facts.{Facts}
@@ -11,7 +10,7 @@ use Rattle.codec.proofs.Places.{length-placed, take-placed}
 use Rattle.modelfile.specs.Files.{bits_of, file_of, numbers, RisingRow, Wide}
 use Rattle.modelfile.proofs.Walking.{codes_push, numbers_push}
 use Rattle.writing.specs.Appends.{HasSpace}
-use Rattle.writing.specs.Writings.{SetsHold, RowsHold, Filed, Begun, SetDone, Turned, RowDone}
+use Rattle.writing.specs.Writings.{SetsHold, RowsHold, Begun, SetDone, RowDone}
 use Rattle.writing.specs.declared.protocol.Rows.{Rows}
 use Rattle.writing.specs.declared.protocol.Sets.{Sets}
 

@@ -13,7 +13,7 @@ use Rattle.modelfile.specs.Files.{bits_of, Wide}
 use Rattle.modelfile.proofs.Walking.{codes_push}
 use Rattle.writing.specs.Saves.{Labelled}
 
-abbrev blank : Facts
+abbrev pub blank : Facts
 blank = record { bits = 0 }
 
 pub labelled_none : (M : Kripke) → Labelled M 0 []

@@ -11,7 +11,7 @@ use Rattle.codec.specs.Pieces.{placed}
 use Rattle.codec.proofs.Joins.{joined-append}
 use Rattle.modelfile.specs.Files.{bits_of, file_of, numbers, Sized, RisingRow}
 use Rattle.modelfile.proofs.Walking.{numbers_push}
-use Rattle.writing.specs.Saves.{rows_of, Labels, TooShort, SaveFault, Measured}
+use Rattle.writing.specs.Saves.{rows_of, Labels, SaveFault, Measured}
 use Rattle.writing.specs.Savings.{RowRefused}
 use Rattle.writing.specs.declared.protocol.WriteFault.{WriteFault}
 use Rattle.writing.specs.declared.protocol.WriteFault.TheVariants.{BadSize, NoSpace, AllGiven, Missing, BadRow}

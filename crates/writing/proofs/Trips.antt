@@ -20,11 +20,8 @@ use Rattle.writing.specs.Writings.{Filed}
 use Rattle.writing.specs.declared.protocol.WriteFault.{WriteFault}
 use Rattle.writing.specs.declared.protocol.WriteFault.TheVariants.{BadSize, NoSpace, AllGiven, Missing, BadRow}
 use Rattle.writing.proofs.Giving.{file_upto}
-use Rattle.writing.proofs.Labelling.{labels_front}
+use Rattle.writing.proofs.Labelling.{blank, labels_front}
 use Rattle.writing.proofs.Measuring.{get_d_rows, length_rows}
-
-abbrev blank : Facts
-blank = record { bits = 0 }
 
 -- the first bytes of a closed writing are the file
 filed_length : (buffer : List ℕ) (len : ℕ) (labels : List Facts) (rows : List (List ℕ)) → Filed buffer len labels rows → len ≡ length (file_of labels rows)
