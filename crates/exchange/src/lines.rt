@@ -3,7 +3,7 @@ ghost use Rattle.std.specs.Prelude.{◌≡◌, ◌-◌, [], ◌∷◌, drop};
 ghost use Rattle.codec.specs.Texts.{line};
 ghost use Rattle.exchange.specs.Listings.{class_in, members, states_in, text_of};
 
-use core::slice::from_ref;
+use std::slice::from_ref;
 
 use codec::pieces::{Piece, Series};
 use codec::text::{Decimal, Line};

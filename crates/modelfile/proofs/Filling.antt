@@ -11,7 +11,7 @@ use Rattle.codec.proofs.Coding.{code_some}
 use Rattle.codec.proofs.Joins.{joined-append, joined_within}
 use Rattle.codec.proofs.Places.{length-placed, placed-none, placed-set, placed_then}
 use Rattle.modelfile.specs.Files.{targets_of, offsets_from, offsets_of}
-use Rattle.modelfile.specs.Fills.{Sequence, RowsFit}
+use Rattle.modelfile.specs.Fills.{Sequence, RowFits, RowsFit}
 use Rattle.modelfile.proofs.Walking.{targets_push}
 
 all_left : (P : ℕ → Type 0) (xs ys : List ℕ) → AllByRecursion P (xs ++ ys) → AllByRecursion P xs
@@ -202,13 +202,9 @@ ends_many offsets some =
 
 -- the tables hold the next row
 pub record RowThere (file targets : List ℕ) (count degree at : ℕ) : Type 0 where
-  pub row : List ℕ
-  pub next : ℕ
-  pub many : length row ≡ length (take (count + degree - count) (drop count targets))
   pub held : count + degree ≤ length targets
   pub few : count + degree < 2 ^ 32
-  pub stands : Sequence file at row next
-  pub short : AllByRecursion (λ t. t < 4096) row
+  pub fits : RowFits file at (length (take (count + degree - count) (drop count targets)))
 
 pub row_there : (file offsets ends targets_were targets : List ℕ) (from k count degree at mid : ℕ) → RowsFit file from (length offsets) (length targets_were) →
     ((rows : List (List ℕ)) (next : ℕ) → length rows ≡ length (take (length (set offsets 0 0) - 1) (drop 1 (set offsets 0 0))) → Sequence file from (flat_map counted rows) next →
@@ -229,13 +225,15 @@ row_there file offsets ends targets_were targets from k count degree at mid fit 
     let long : length targets ≡ length targets_were = ap length filled'.targets_are ∙ length-placed targets_were (targets_of (take k rows)) 0 (omega arith) in
     let degree_is = is.many in
     record {
-      row = get_or rows k [];
-      next = _;
-      many = omega (arith, length-take (count + degree - count) (drop count targets), length-drop count targets);
       held = omega arith;
       few = omega arith;
-      stands = is.stands;
-      short = All-get_or (AllByRecursion (λ t. t < 4096)) rows k [] more fit.short;
+      fits = record {
+        row = get_or rows k [];
+        next = _;
+        many = omega (arith, length-take (count + degree - count) (drop count targets), length-drop count targets);
+        stands = is.stands;
+        short = All-get_or (AllByRecursion (λ t. t < 4096)) rows k [] more fit.short;
+      };
     }
 
 -- all rows are read: the offsets are 0 and where each row ends

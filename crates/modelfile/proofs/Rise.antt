@@ -8,12 +8,6 @@ use Rattle.kripke.specs.Reduced.{Rising}
 use Rattle.modelfile.specs.Files.{RisingRow}
 use Rattle.modelfile.specs.Walks.{Lowest}
 
-pub rising_none : Rising []
-rising_none k h = absurd (omega arith)
-
-pub rising_one : (t : ℕ) → Rising (t ∷ [])
-rising_one t k h = absurd (omega arith)
-
 pub rising_front : (ts : List ℕ) (t : ℕ) → Rising (ts ++ (t ∷ [])) → Rising ts
 rising_front ts t r k h =
     let long = length_push ts t in
@@ -52,9 +46,6 @@ rising_push ts t u r above k h =
           let last = get_or_push (ts ++ (t ∷ [])) u nowhere (suc k) (omega arith) in
           omega arith
     ]
-
-pub lowest-none : Lowest [] 0
-lowest-none t = (λ _. rising_one t, λ _. omega arith)
 
 pub lowest_more : (ts : List ℕ) (t : ℕ) → Rising (ts ++ (t ∷ [])) → Lowest (ts ++ (t ∷ [])) (t + 1)
 lowest_more ts t r u = (λ h. rising_push ts t u r (omega arith), λ q. omega (arith, rising_end ts t u q))

@@ -35,10 +35,6 @@ file_next M labels s h = file_push labels (take s (rows_of M)) (M.frame.row s) �
 pub file_longer : (M : Kripke) (labels : List Facts) (s : ℕ) → s < M.frame.size → length (file_of labels (take (s + 1) (rows_of M))) ≡ length (file_of labels (take s (rows_of M))) + length (codes (counted (M.frame.row s)))
 file_longer M labels s h = ap length (sym (file_next M labels s h)) ∙ length-append (file_of labels (take s (rows_of M))) (codes (counted (M.frame.row s)))
 
--- N and all labels are the file of no row
-pub file_none : (labels : List Facts) (n : ℕ) → length labels ≡ n → codes (n ∷ bits_of labels) ≡ file_of labels []
-file_none labels n e = ap (λ m. codes (m ∷ bits_of labels)) (sym e) ∙ ap codes (sym (append-nil (length labels ∷ bits_of labels)))
-
 -- a table that is just as long as the row that is put into it
 pub whole_row : (before table row : List ℕ) (k : ℕ) → length before ≡ length row → length row ≤ k → table ≡ placed before 0 (take k row) → table ≡ row
 whole_row before table row k long all e =

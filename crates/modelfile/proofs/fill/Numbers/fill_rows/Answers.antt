@@ -1,46 +1,35 @@
 use Rattle.std.proofs.Common.{refl, ◌∙◌, arith, rules}
-use Rattle.modelfile.proofs.Filling.{ends_many, rows_none, row_there, rows_step, rows_all}
+use Rattle.modelfile.proofs.Filling.{RowThere, ends_many, rows_none, row_there, rows_step, rows_all}
 use Rattle.modelfile.proofs.fill.Numbers.fill_rows.Goals as goal
+use Rattle.modelfile.proofs.fill.Numbers.fill_rows.Goals.{After-number}
 
 pub loop-offset-init : goal.loop-offset-init
 loop-offset-init c = (refl, λ rows next many seq. rows_none _ _ _ rows _ next seq)
 
+-- the row of which the degree is read
+there : (c : After-number) → RowThere c.args.self.now.file.now c.loop-offset.targets c.loop-offset.end c.number.result c.number.new.self.at
+there c = row_there _ _ _ _ _ _ _ _ _ _ _ c.requires c.loop-offset.invariant.1 c.loop-offset-test.true (rw c.loop-offset.invariant.0 at c.number.ensures.next)
+
 pub overflow_add-end : goal.overflow_add-end
-overflow_add-end c =
-    let there = row_there _ _ _ _ _ _ _ _ _ _ _ c.requires c.loop-offset.invariant.1 c.loop-offset-test.true (rw c.loop-offset.invariant.0 at c.number.ensures.next) in
-    let few = there.few in
-    search rules
+overflow_add-end c = let few = (there (goal.at.overflow_add-end c).After-number).few in search rules
 
 pub offset_bounds-targets-begin : goal.offset_bounds-targets-begin
-offset_bounds-targets-begin c =
-    let there = row_there _ _ _ _ _ _ _ _ _ _ _ c.requires c.loop-offset.invariant.1 c.loop-offset-test.true (rw c.loop-offset.invariant.0 at c.number.ensures.next) in
-    let few = there.few in
-    search rules
+offset_bounds-targets-begin c = let few = (there (goal.at.offset_bounds-targets-begin c).After-number).few in search rules
 
 pub slice_bounds-fill_row-end : goal.slice_bounds-fill_row-end
-slice_bounds-fill_row-end c =
-    let there = row_there _ _ _ _ _ _ _ _ _ _ _ c.requires c.loop-offset.invariant.1 c.loop-offset-test.true (rw c.loop-offset.invariant.0 at c.number.ensures.next) in
-    let held = there.held in
-    search rules
+slice_bounds-fill_row-end c = let held = (there (goal.at.slice_bounds-fill_row-end c).After-number).held in search rules
 
 pub fill_row-requires : goal.fill_row-requires
-fill_row-requires c =
-    let there = row_there _ _ _ _ _ _ _ _ _ _ _ c.requires c.loop-offset.invariant.1 c.loop-offset-test.true (rw c.loop-offset.invariant.0 at c.number.ensures.next) in
-    rw (c.number.ensures.file, c.loop-offset.invariant.0)
-    (record { row = there.row; next = there.next; many = there.many; stands = there.stands; short = there.short })
+fill_row-requires c = rw (c.number.ensures.file, c.loop-offset.invariant.0) (there (goal.at.fill_row-requires c).After-number).fits
 
 pub overflow_cast-offset : goal.overflow_cast-offset
-overflow_cast-offset c =
-    let there = row_there _ _ _ _ _ _ _ _ _ _ _ c.requires c.loop-offset.invariant.1 c.loop-offset-test.true (rw c.loop-offset.invariant.0 at c.number.ensures.next) in
-    let few = there.few in
-    search rules
+overflow_cast-offset c = let few = (there (goal.at.overflow_cast-offset c).After-number).few in search rules
 
 pub loop-offset-preserved : goal.loop-offset-preserved
 loop-offset-preserved c = (
   c.fill_row.ensures.file ∙ c.number.ensures.file ∙ c.loop-offset.invariant.0,
   λ rows next many seq.
-      let there = row_there _ _ _ _ _ _ _ _ _ _ _ c.requires c.loop-offset.invariant.1 c.loop-offset-test.true (rw c.loop-offset.invariant.0 at c.number.ensures.next) in
-      rows_step _ _ _ _ _ rows _ _ _ next (c.loop-offset.invariant.1 rows next many seq) (omega arith) _ _ _ _ _ many there.held (rw c.loop-offset.invariant.0 at c.number.ensures.next) refl
+      rows_step _ _ _ _ _ rows _ _ _ next (c.loop-offset.invariant.1 rows next many seq) (omega arith) _ _ _ _ _ many (there (goal.at.loop-offset-preserved c).After-number).held (rw c.loop-offset.invariant.0 at c.number.ensures.next) refl
       (rw (c.number.ensures.file, c.loop-offset.invariant.0) at c.fill_row.ensures.filled),
 )
 
