@@ -3,11 +3,10 @@ ghost use Rattle.std.specs.Prelude.{◌≡◌, ◌-◌, [], ◌∷◌, drop};
 ghost use Rattle.codec.specs.Texts.{line};
 ghost use Rattle.exchange.specs.Listings.{class_in, members, states_in, text_of};
 
-use std::slice::from_ref;
-
 use codec::pieces::{Piece, Series};
 use codec::text::{Decimal, Line};
 use merger::analysis::Analysis;
+use std::slice::from_ref;
 
 // A line of a name and one number.
 #[derive(Clone, Copy)]
