@@ -65,6 +65,7 @@ impl<A: Piece, B: Piece> Piece for (A, B) {
 }
 
 /// Pieces one after another: the first, and then a series again.
+// Kept: an Iterator tells its items by a relation, and a piece its bytes by a function, so that each series would have two impls and laws between them.
 pub trait Series: Copy {
     type Part: Piece + Drop;
 
