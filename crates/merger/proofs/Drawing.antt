@@ -5,24 +5,24 @@ use Rattle.std.proofs.lemmas.Option.{slice_get-get_or, slice_get_past}
 use Rattle.sets.specs.declared.Set.{Set}
 use Rattle.sets.specs.Sets.{In, none, members}
 use Rattle.sets.proofs.Members.{members_has, members_in, members_rise}
-use Rattle.kripke.specs.Models.{Kripke, Alike, nowhere, move}
-use Rattle.kripke.specs.Components.{Components}
+use Rattle.kripke.specs.Models.{Kripke, nowhere, move}
 use Rattle.kripke.specs.Paths.{Move}
 use Rattle.kripke.specs.Relation.{Related}
 use Rattle.kripke.specs.Reduced.{Rising}
 use Rattle.kripke.proofs.Counting.{chosen}
+use Rattle.kripke.proofs.Settling.{settles_stable}
 use Rattle.kripke.proofs.Sampling.{Sampled, sampled_reduces}
 use Rattle.merger.specs.declared.tables.Found.{Found}
 use Rattle.merger.specs.declared.tables.Rounds.{Rounds}
 use Rattle.merger.specs.declared.reduced.Reduced.{Reduced}
 use Rattle.merger.specs.Grids.{at, set_at}
-use Rattle.merger.specs.Reaching.{On, Outlook}
-use Rattle.merger.specs.Tables.{part, class_of, words_of, Passes, Bounded}
+use Rattle.merger.specs.Reaching.{Outlook}
+use Rattle.merger.specs.Tables.{part, class_of, words_of, Bounded}
 use Rattle.merger.specs.Analysed.{Surveyed, Tabled}
 use Rattle.merger.specs.Filled.{filled_frame, filled_formed}
 use Rattle.merger.specs.Reducing.{meaning, Drawn, Fills}
 use Rattle.merger.proofs.Moving.{loop_out, next_out, out_loop, out_next}
-use Rattle.merger.proofs.Promising.{settles_stable, tabled_promise}
+use Rattle.merger.proofs.Promising.{tabled_promise}
 use Rattle.merger.proofs.Blank.{no_words}
 use Rattle.sets.proofs.Bits.{none_in}
 
@@ -86,12 +86,6 @@ module _ (M : Kripke) (r : ℕ) (F : Found) (S : Rounds) (A : Tabled M r F S) (e
   O : Surveyed M F
   O = A.surveyed
 
-  K : Components M.frame (Alike M) (part F) S.partition.len
-  K = subst (λ n. Components M.frame (Alike M) (part F) n) (sym A.items) O.components
-
-  step : (k l : ℕ) → k < S.partition.len → In (set_at F.moves k) l ↔ Passes M.frame (part F) k l
-  step k l h = O.moves k l (subst (λ n. k < n) A.items h)
-
   abbrev c : ℕ → ℕ
   c = class_of F S
 
@@ -142,22 +136,15 @@ module _ (M : Kripke) (r : ℕ) (F : Found) (S : Rounds) (A : Tabled M r F S) (e
         let s = voice.0 i in
         let v = voice.1 i h in
         let w = row_out i j s h k v in (
-          (λ p. out_next M O.formed (part F) S.partition.len K r (at S.partition.class) A.classes.same (On S.reach) A.reach
-              (λ k. In (set_at F.moves k)) step s j v.0 (λ e. other (e ∙ v.1)) (w.0 p)),
-          (λ q. w.1 (subst (Outlook S.reach F.moves S.partition (part F s)) q.2
-              (next_out M O.formed (part F) S.partition.len K r (at S.partition.class) A.classes.same (On S.reach) A.reach
-              (λ k. In (set_at F.moves k)) step s q.0 v.0 q.1))),
+          (λ p. out_next M r F S A s j v.0 (λ e. other (e ∙ v.1)) (w.0 p)),
+          (λ q. w.1 (subst (Outlook S.reach F.moves S.partition (part F s)) q.2 (next_out M r F S A s q.0 v.0 q.1))),
         );
     turns = λ i h.
         let s = voice.0 i in
         let v = voice.1 i h in
         let w = row_out i i s h h v in (
-          (λ p. out_loop M O.formed (part F) S.partition.len K r (at S.partition.class) A.classes.same (On S.reach) A.reach
-              (λ k. In (set_at F.moves k)) step s v.0
-              (subst (Outlook S.reach F.moves S.partition (part F s)) (sym v.1) (w.0 p))),
-          (λ l. w.1 (subst (Outlook S.reach F.moves S.partition (part F s)) v.1
-              (loop_out M O.formed (part F) S.partition.len K r (at S.partition.class) A.classes.same (On S.reach) A.reach
-              (λ k. In (set_at F.moves k)) step s v.0 l))),
+          (λ p. out_loop M r F S A s v.0 (subst (Outlook S.reach F.moves S.partition (part F s)) (sym v.1) (w.0 p))),
+          (λ l. w.1 (subst (Outlook S.reach F.moves S.partition (part F s)) v.1 (loop_out M r F S A s v.0 l))),
         );
     rising = λ i h. let n = D.states in filled_rising x.states x.moves i (omega arith);
     lands = lands;

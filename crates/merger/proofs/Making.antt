@@ -21,7 +21,7 @@ use Rattle.merger.specs.Reducing.{meaning, Fills}
 use Rattle.merger.specs.Tells.{ClassTells, ReducedTells}
 use Rattle.merger.specs.Calls.{Analysed, Continues, RoundAnswer, RunAnswer, ClassAnswer, TogetherAnswer, ReducedAnswer}
 use Rattle.merger.specs.Runs.{Answered, answer_of, asks, asked, CallTells, CallAnswer, call_at, rounds_before, SettledBefore, Due, Classed, Performed}
-use Rattle.merger.proofs.Rounding.{settles_once}
+use Rattle.kripke.proofs.Claims.{settled_once}
 use Rattle.merger.proofs.Promising.{promise}
 use Rattle.merger.proofs.Calling.{promises, continues_none}
 
@@ -146,12 +146,12 @@ module _ (M : Kripke) (calls : List Call) (answers : List Answered) (z : ℕ) (S
     settled-now l = let e : z ≡ rounds_before calls z i = omega arith in subst (Settles M) e S
 
     now-settled : Settles M (rounds_before calls z i) → SettledBefore calls z i
-    now-settled s = let e = settles_once M (rounds_before calls z i) z s S in omega arith
+    now-settled s = let e = settled_once M (rounds_before calls z i) z s S in omega arith
 
     next : Analysed M (rounds_before calls z (i + 1)) b'
     next =
         let p = C.continues M (rounds_before calls z i) P.stands in
-        let e = settles_once M p.1.0 z p.1.1 S in
+        let e = settled_once M p.1.0 z p.1.1 S in
         let k = asked_more calls i h in
         let same : p.0 ≡ rounds_before calls z (i + 1) = omega (arith, p.1.2) in
         subst (λ r. Analysed M r b') same p.2

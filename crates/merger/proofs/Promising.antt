@@ -3,9 +3,9 @@ use Rattle.std.proofs.Common.{◌≡◌, ℕ, suc, ◌+◌, ◌-◌, ◌<◌, �
 use Rattle.std.proofs.lemmas.Bool.{cases_Bool, both_ways, eqb-true, eqb-false, eq-eqb}
 use Rattle.kripke.specs.Models.{Kripke, WellFormed, Total}
 use Rattle.kripke.specs.Formulas.{Agree}
-use Rattle.kripke.specs.Relation.{Related, Stable, Settles}
+use Rattle.kripke.specs.Relation.{Related, Settles}
 use Rattle.kripke.proofs.Numbering.{numbering_same}
-use Rattle.kripke.proofs.Settling.{stable_later}
+use Rattle.kripke.proofs.Settling.{settles_stable}
 use Rattle.kripke.proofs.Quotient.{reduced_agrees, reduced_smallest}
 use Rattle.kripke.proofs.Claims.{stable_exact, parted_by_formula_lem, rounds_counted}
 use Rattle.merger.specs.declared.tables.Found.{Found}
@@ -14,10 +14,6 @@ use Rattle.merger.specs.Tables.{class_of}
 use Rattle.merger.specs.Analysed.{Surveyed, Tabled}
 use Rattle.merger.specs.Promise.{Classes, Told, Promise, Reaches}
 use Rattle.merger.proofs.Rounding.{settles_after, stands_at, settling}
-
--- after the settling round nothing is parted
-pub settles_stable : (M : Kripke) (r : ℕ) → Settles M r → Stable M r
-settles_stable M r z = stable_later M z.0 r (omega (arith, z.1)) z.2
 
 -- states that C_r does not relate are told apart
 pub apart_told : (M : Kripke) → WellFormed M → (r s t : ℕ) → s < M.frame.size → t < M.frame.size → (Related M r s t → ⊥) → Told M r s t

@@ -3,38 +3,30 @@ use Rattle.std.proofs.Common.{◌≡◌, ℕ, suc, ◌+◌, ◌<◌, ◌≤◌, 
 use mathlib.Core.Logic.{∥∥₁_elim, ∥∥₁_map}
 use mathlib.Core.HLevel.{⊥_prop}
 use Rattle.std.proofs.lemmas.Bool.{cases_Bool, cases_eq, both_ways}
-use Rattle.sets.specs.Sets.{In}
-use Rattle.kripke.specs.Models.{Kripke, Alike}
-use Rattle.kripke.specs.Components.{Components}
+use Rattle.kripke.specs.Models.{Kripke}
 use Rattle.kripke.specs.Relation.{Related, Settles}
 use Rattle.kripke.specs.Numbering.{Numbering}
 use Rattle.kripke.proofs.Ranking.{ranked_two, ranked_few}
 use Rattle.kripke.proofs.Rounds.{related_equivalence, st_related, st_narrows}
 use Rattle.kripke.proofs.Settling.{same_stable, unsettled_next}
-use Rattle.kripke.proofs.Claims.{rounds_settle}
+use Rattle.kripke.proofs.Claims.{rounds_settle, settled_once}
 use Rattle.merger.specs.declared.tables.Found.{Found}
 use Rattle.merger.specs.declared.tables.Rounds.{Rounds}
-use Rattle.merger.specs.Grids.{at, set_at}
+use Rattle.merger.specs.Grids.{at}
 use Rattle.merger.specs.Reaching.{On}
-use Rattle.merger.specs.Tables.{part, class_of, words_of, Passes, Bounded, Advanced}
+use Rattle.merger.specs.Tables.{part, class_of, words_of, Bounded, Advanced}
 use Rattle.merger.specs.Analysed.{Unsettled, Surveyed, Tabled}
 use Rattle.merger.proofs.Moving.{round_parts}
 
--- there is one settling round, and it comes after the rounds that part something
+-- the settling round comes after the rounds that part something
 pub settles_after : (M : Kripke) (r z : ℕ) → Unsettled M r → Settles M z → r < z
 settles_after M r z u b = let l : b.0 < r → ⊥ = λ l. u b.0 l b.2 in omega (arith, b.1)
-
-pub settles_once : (M : Kripke) (y z : ℕ) → Settles M y → Settles M z → y ≡ z
-settles_once M y z a b =
-    let up : a.0 < b.0 → ⊥ = λ l. b.3 a.0 l a.2 in
-    let down : b.0 < a.0 → ⊥ = λ l. a.3 b.0 l b.2 in
-    omega (arith, a.1, b.1)
 
 -- where the tables stand against the settling round
 pub stands_at : (M : Kripke) (r z : ℕ) (F : Found) (S : Rounds) → Tabled M r F S → Settles M z →
     ((S.settled ≡ true) × (r ≡ z)) ⊎ ((S.settled ≡ false) × (r < z))
 stands_at M r z F S A s = ⊎_elim
-    (λ e. inl (e, settles_once M r z (A.ended e) s))
+    (λ e. inl (e, settled_once M r z (A.ended e) s))
     (λ e. inr (e, settles_after M r z (A.going e) s))
     (cases_Bool S.settled)
 
@@ -51,12 +43,6 @@ module _ (M : Kripke) (r : ℕ) (F : Found) (S : Rounds) (A : Tabled M r F S) wh
 
   pub below : (s : ℕ) → s < M.frame.size → part F s < F.components
   below = O.components.ranked.below
-
-  K : Components M.frame (Alike M) (part F) S.partition.len
-  K = subst (λ n. Components M.frame (Alike M) (part F) n) (sym A.items) O.components
-
-  step : (k l : ℕ) → k < S.partition.len → In (set_at F.moves k) l ↔ Passes M.frame (part F) k l
-  step k l h = O.moves k l (subst (λ n. k < n) A.items h)
 
   -- a component has a state
   pub state_of : (k : ℕ) → k < F.components → (s : ℕ) × (s < M.frame.size) × (part F s ≡ k)
@@ -93,8 +79,7 @@ module _ (M : Kripke) (r : ℕ) (F : Found) (S : Rounds) (A : Tabled M r F S) wh
     same : (s t : ℕ) → s < M.frame.size → t < M.frame.size → (class_of F S' s ≡ class_of F S' t) ↔ Related M (suc r) s t
     same s t h k =
         let a = V.classes.same (part F s) (part F t) (below s h) (below t k) in
-        let b = round_parts M O.formed (part F) S.partition.len K r (at S.partition.class) A.classes.same
-        (On S.reach) A.reach (λ k. In (set_at F.moves k)) step s t h k in
+        let b = round_parts M r F S A s t h k in
         ((λ e. b.1 (a.0 e)), (λ p. a.1 (b.0 p)))
 
     numbers : Numbering (Related M (suc r)) M.frame.size (class_of F S') S'.partition.classes
