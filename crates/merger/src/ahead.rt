@@ -39,7 +39,5 @@ pub(crate) fn outlooks(
     ensures { Outlooks result reach.now moves.now classes.now wanted }
 {
     let ahead = table(Set::NONE, wanted, |k| ahead(moves[k], classes, k));
-    table(Set::NONE, wanted, |k| {
-        reach.union(k, &ahead, classes.len())
-    })
+    table(Set::NONE, wanted, |k| { reach.union(k, &ahead, classes) })
 }

@@ -16,6 +16,7 @@ use models::Model;
 use sets::Set;
 
 // Finds the components of a model, with their words and the moves between them.
+// Kept: two slices as in open.
 pub(crate) fn look_over<M: Model>(
     found: &mut Found,
     model: &M,
@@ -45,7 +46,7 @@ pub(crate) fn start(found: &Found, rounds: &mut Rounds)
 {
     rounds.partition = label_classes(&found.facts, found.components);
     let reach = close(&found.moves, &rounds.partition);
-    rounds.reach.fill(&reach, found.components);
+    rounds.reach.fill(&reach, &rounds.partition);
     rounds.made = 0;
     rounds.settled = false;
 }

@@ -39,6 +39,7 @@ fn union_between(row: &[u8; 128], sets: &[Set; 128], from: usize, end: usize, al
 }
 
 // What is in the set of some component below `count` that the row marks.
+// Kept: a table and a count; of a slice of sets the length must be at most 128 as well, since there are as many marks.
 fn union_of_marked(row: &[u8; 128], sets: &[Set; 128], count: usize) -> Set
     requires { count ≤ 128 }
     ensures { (c : ℕ) → In result c ↔ ((l : ℕ) × (l < count) × (at row.now l ≡ 1) × In (set_at sets.now l) c) }
@@ -71,23 +72,22 @@ impl Reach {
         }
     }
 
-    // Lets each component below `count` reach what is in its set.
-    pub(crate) fn fill(&mut self, sets: &[Set; 128], count: usize)
-        requires { count ≤ 128 }
-        ensures { (k l : ℕ) → k < count → On self.new k l ↔ In (set_at sets.now k) l }
+    // Lets each of the components in classes reach what is in its set.
+    pub(crate) fn fill(&mut self, sets: &[Set; 128], classes: &Partition)
+        ensures { (k l : ℕ) → k < classes.now.len → On self.new k l ↔ In (set_at sets.now k) l }
     {
         // Kept: under `iter_mut().zip(sets)` the check knows nothing of the rows that were written.
-        for (k, row) in self.rows[..count].iter_mut().enumerate() {
+        for (k, row) in self.rows[..classes.len()].iter_mut().enumerate() {
             *row = table(0, sets[k], |_| 1);
         }
     }
 
-    // What is in the set of some component below `count` that component `k` reaches.
-    pub(crate) fn union(&self, k: usize, sets: &[Set; 128], count: usize) -> Set
-        requires { (k < 128) × (count ≤ 128) }
-        ensures { (c : ℕ) → In result c ↔ ((l : ℕ) × (l < count) × On self.now k l × In (set_at sets.now l) c) }
+    // What is in the set of some of the components in classes that component `k` reaches.
+    pub(crate) fn union(&self, k: usize, sets: &[Set; 128], classes: &Partition) -> Set
+        requires { k < classes.now.len }
+        ensures { (c : ℕ) → In result c ↔ ((l : ℕ) × (l < classes.now.len) × On self.now k l × In (set_at sets.now l) c) }
     {
-        union_of_marked(&self.rows[k], sets, count)
+        union_of_marked(&self.rows[k], sets, classes.len())
     }
 
     // Clears the pairs of components that were parted.

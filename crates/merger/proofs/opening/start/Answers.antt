@@ -16,7 +16,7 @@ returns c =
       classes = labels.numbers;
       items = labels.len;
       reach = λ k l h.
-          let o = c.fill.ensures k l h in
+          let o = c.fill.ensures k l (omega arith) in
           let m = c.close-reach.ensures k l (omega arith) in
           subst (λ n. On c.fill.new.self k l ↔ ((i : ℕ) × Trail (Inner c.args.found.now.moves P) (λ j. j < n) i k l)) labels.len
           ((λ e. m.0 (o.0 e)), (λ p. o.1 (m.1 p)));
