@@ -25,13 +25,17 @@ def bugs(crate):
         yield dict(line.split(": ", 1) if ": " in line else (line.rstrip(":"), "") for line in block.split("\n"))
 
 
-def below(crate):
-    """The crates that a crate builds on, itself among them."""
-    deps = {}
+def entries():
+    """The lines of crates.txt: the crate, those it builds on, and the line. A static library has a word more before the colon."""
     for line in (top / "crates.txt").read_text().splitlines():
         name, colon, rest = line.split("#")[0].partition(":")
         if colon:
-            deps[name.strip()] = rest.split()
+            yield name.split()[0], rest.split(), line
+
+
+def below(crate):
+    """The crates that a crate builds on, itself among them."""
+    deps = {name: rest for name, rest, _ in entries()}
     found, todo = set(), [crate]
     while todo:
         name = todo.pop()
@@ -43,10 +47,9 @@ def below(crate):
 
 def copied(crate, copy):
     """Copies the sources, and what is proved already of the crate and of those below it."""
-    lines = (top / "crates.txt").read_text().splitlines(keepends=True)
     wanted = below(crate)
     # a line without its crate would be refused
-    (copy / "crates.txt").write_text("".join(line for line in lines if line.split(":")[0] in wanted))
+    (copy / "crates.txt").write_text("".join(line + "\n" for name, _, line in entries() if name in wanted))
     for name in wanted:
         if (top / "crates" / name).is_dir():
             shutil.copytree(top / "crates" / name, copy / "crates" / name, ignore=shutil.ignore_patterns("must-fail"))
