@@ -11,59 +11,47 @@ ghost use Rattle.modelfile.specs.Fills.{Sequence, RowFits, RowsFit};
 use codec::numbers::known_number;
 use models::facts::Facts;
 
-// The numbers of a file that was read before, from the one that begins at `at` on.
-#[derive(Drop)]
-pub struct Numbers<'a> {
-    pub file: &'a [u8],
-    pub at: usize,
+// Takes the number of `file` that begins at `at`: the file was read before.
+fn number(file: &[u8], at: &mut usize) -> u64
+    ensures { (n next : ℕ) → Stands file.now at.old n next → (n ≡ result) × (next ≡ at.new) }
+{
+    let (number, next) = known_number(file, *at);
+    *at = next;
+    number
 }
 
-impl Numbers<'_> {
-    // Takes the next number.
-    fn number(&mut self) -> u64
-        ensures file { self.new.file ≡ self.old.file }
-        ensures next { (n next : ℕ) → Stands self.old.file.now self.old.at n next → (n ≡ result) × (next ≡ self.new.at) }
-    {
-        let (number, next) = known_number(self.file, self.at);
-        self.at = next;
-        number
+/// Fills the labels with the next numbers.
+pub fn fill_labels(file: &[u8], at: &mut usize, labels: &mut [Facts])
+    ensures { (ls : List Label) (next : ℕ) → length ls ≡ length labels.old → Sequence file.now at.old (bits_of ls) next → (at.new ≡ next) × (labels.new ≡ ls) }
+{
+    for label in labels.iter_mut() {
+        *label = Facts {
+            bits: number(file, at),
+        };
     }
+}
 
-    /// Fills the labels with the next numbers.
-    pub fn fill_labels(&mut self, labels: &mut [Facts])
-        ensures file { self.new.file ≡ self.old.file }
-        ensures filled { (ls : List Label) (next : ℕ) → length ls ≡ length labels.old → Sequence self.old.file.now self.old.at (bits_of ls) next → (self.new.at ≡ next) × (labels.new ≡ ls) }
-    {
-        for label in labels.iter_mut() {
-            *label = Facts {
-                bits: self.number(),
-            };
-        }
+// Fills a row with the next numbers.
+fn fill_row(file: &[u8], at: &mut usize, row: &mut [u16])
+    requires { RowFits file.now at.old (length row.old) }
+    ensures { (ts : List ℕ) (next : ℕ) → length ts ≡ length row.old → Sequence file.now at.old ts next → (at.new ≡ next) × (row.new ≡ ts) }
+{
+    for target in row.iter_mut() {
+        *target = number(file, at) as u16;
     }
+}
 
-    // Fills a row with the next numbers.
-    fn fill_row(&mut self, row: &mut [u16])
-        requires { RowFits self.old.file.now self.old.at (length row.old) }
-        ensures file { self.new.file ≡ self.old.file }
-        ensures filled { (ts : List ℕ) (next : ℕ) → length ts ≡ length row.old → Sequence self.old.file.now self.old.at ts next → (self.new.at ≡ next) × (row.new ≡ ts) }
-    {
-        for target in row.iter_mut() {
-            *target = self.number() as u16;
-        }
-    }
-
-    /// Fills the offsets and the front of the targets with the next rows.
-    pub fn fill_rows(&mut self, offsets: &mut [u32], targets: &mut [u16])
-        requires { RowsFit self.old.file.now self.old.at (length offsets.old) (length targets.old) }
-        ensures { (rows : List (List ℕ)) (next : ℕ) → length rows + 1 ≡ length offsets.old → Sequence self.old.file.now self.old.at (flat_map counted rows) next → (offsets.new ≡ offsets_of rows) × (targets.new ≡ placed targets.old 0 (targets_of rows)) }
-    {
-        let mut end = 0;
-        offsets[0] = 0;
-        for offset in offsets[1..].iter_mut() {
-            let begin = end;
-            end += self.number() as usize;
-            self.fill_row(&mut targets[begin..end]);
-            *offset = end as u32;
-        }
+/// Fills the offsets and the front of the targets with the next rows.
+pub fn fill_rows(file: &[u8], at: &mut usize, offsets: &mut [u32], targets: &mut [u16])
+    requires { RowsFit file.now at.old (length offsets.old) (length targets.old) }
+    ensures { (rows : List (List ℕ)) (next : ℕ) → length rows + 1 ≡ length offsets.old → Sequence file.now at.old (flat_map counted rows) next → (offsets.new ≡ offsets_of rows) × (targets.new ≡ placed targets.old 0 (targets_of rows)) }
+{
+    let mut end = 0;
+    offsets[0] = 0;
+    for offset in offsets[1..].iter_mut() {
+        let begin = end;
+        end += number(file, at) as usize;
+        fill_row(file, at, &mut targets[begin..end]);
+        *offset = end as u32;
     }
 }

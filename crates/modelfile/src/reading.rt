@@ -3,7 +3,7 @@ ghost use Rattle.std.specs.Prelude.{◌≡◌, ◌+◌, length, take};
 ghost use Rattle.modelfile.specs.Loads.{held, room_of, StillLent, Loads, EachFileHasOneOutcome};
 
 use crate::faults::FileFault;
-use crate::fill::Numbers;
+use crate::fill::{fill_labels, fill_rows};
 use crate::scan::{Room, scan};
 use models::facts::Facts;
 use models::listed::Listed;
@@ -59,12 +59,14 @@ pub fn load(file: &[u8], tables: &mut Tables<'_>) -> Result<Loaded, FileFault>
 {
     let plan = scan(file, tables.room())?;
     let states = plan.states as usize;
-    let mut numbers = Numbers {
+    let mut at = plan.labels_at;
+    fill_labels(file, &mut at, &mut tables.labels[..states]);
+    fill_rows(
         file,
-        at: plan.labels_at,
-    };
-    numbers.fill_labels(&mut tables.labels[..states]);
-    numbers.fill_rows(&mut tables.offsets[..states + 1], tables.targets);
+        &mut at,
+        &mut tables.offsets[..states + 1],
+        tables.targets,
+    );
     Ok(Loaded {
         states: plan.states,
         targets: plan.targets,

@@ -14,9 +14,9 @@ fill_rows-requires c =
     let room = plan.denotes.held.0.0 in
     let more = plan.denotes.held.0.1 in
     let many = length-take-le c.in_ok-plan.plan.states c.args.tables.now.labels.now (omega arith) in
-    let labels = c.fill_labels.ensures.filled plan.labels _ (omega arith) (labels_stand _ _ _ _ plan.denotes _ plan.labels_at) in
+    let labels = c.fill_labels.ensures plan.labels _ (omega arith) (labels_stand _ _ _ _ plan.denotes _ plan.labels_at) in
     let so_many = length-take-le (c.in_ok-plan.plan.states + 1) c.args.tables.now.offsets.now (omega arith) in
-    rw c.fill_labels.ensures.file (rows_fit _ _ _ _ plan.denotes _ _ labels.0 (omega arith))
+    rows_fit _ _ _ _ plan.denotes _ _ labels.0 (omega arith)
 
 pub returns-clause-loads : goal.returns-clause-loads
 returns-clause-loads c =
@@ -27,8 +27,8 @@ returns-clause-loads c =
     let each = plan.denotes.valid.each in
     let many = length-take-le c.in_ok-plan.plan.states c.args.tables.now.labels.now (omega arith) in
     let so_many = length-take-le (c.in_ok-plan.plan.states + 1) c.args.tables.now.offsets.now (omega arith) in
-    let labels = c.fill_labels.ensures.filled plan.labels _ (omega arith) (labels_stand _ _ _ _ plan.denotes _ plan.labels_at) in
-    let rows = (rw c.fill_labels.ensures.file at c.fill_rows.ensures) plan.rows _ (omega arith) (rows_stand _ _ _ _ plan.denotes _ labels.0) in
+    let labels = c.fill_labels.ensures plan.labels _ (omega arith) (labels_stand _ _ _ _ plan.denotes _ plan.labels_at) in
+    let rows = c.fill_rows.ensures plan.rows _ (omega arith) (rows_stand _ _ _ _ plan.denotes _ labels.0) in
     let filled : Filled (held c.args.tables.now) _ plan.labels plan.rows = record {
       labels_are = front_placed c.args.tables.now.labels.now _ plan.labels _ labels.1 states;
       offsets_are = front_placed c.args.tables.now.offsets.now _ (offsets_of plan.rows) _ rows.0 (omega (arith, length_offsets 0 plan.rows));

@@ -3,11 +3,10 @@ use Rattle.models.specs.declared.facts.Facts.{Facts}
 use Rattle.modelfile.specs.Files.{bits_of}
 use Rattle.modelfile.specs.Fills.{Sequence}
 use Rattle.modelfile.proofs.Filling.{FilledTo}
-use Rattle.modelfile.proofs.fill.Numbers.fill_labels.Given as goal
+use Rattle.modelfile.proofs.fill.fill_labels.Given as goal
 
 -- any labels that stand there are read up to here
 abbrev pub invariant-loop-label : goal.invariant-loop-label
 invariant-loop-label l =
-    (l.self.file ≡ l.fn.self.file)
-    × ((ls : List Facts) (next : ℕ) → length ls ≡ length l.initial.labels → Sequence l.fn.self.file.now l.fn.self.at (bits_of ls) next →
-    FilledTo (λ (x : Facts). x.bits) l.fn.self.file.now l.initial.labels l.labels ls l.label-index l.self.at next)
+    (ls : List Facts) (next : ℕ) → length ls ≡ length l.initial.labels → Sequence l.file l.initial.at (bits_of ls) next →
+    FilledTo (λ (x : Facts). x.bits) l.file l.initial.labels l.labels ls l.label-index l.at next
