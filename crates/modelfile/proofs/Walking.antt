@@ -1,17 +1,18 @@
 -- One number more of a file is read, and is right.
-use Rattle.std.proofs.Common.{◌≡◌, ℕ, ◌+◌, ◌<◌, ◌≤◌, List, [], ◌∷◌, ◌++◌, length, take, sym, refl, ap, ◌∙◌, subst, inr, arith}
+use Rattle.std.proofs.Common.{◌≡◌, ℕ, ◌+◌, ◌<◌, ◌≤◌, List, [], ◌∷◌, ◌++◌, length, take, sym, ap, ◌∙◌, inr, arith}
 use Rattle.std.proofs.ByRecursion.{All-push}
-use Rattle.std.proofs.lemmas.List.{append_assoc, append-nil, flat_map_more, length-append, length_push, length-take-le, map_push, take_all}
+use Rattle.std.proofs.lemmas.List.{append_assoc, flat_map_more, length-append, length_push, length-take-le, map_push}
 use Rattle.kripke.specs.Reduced.{Rising}
 use Rattle.models.specs.declared.facts.Facts.{Facts}
 use Rattle.codec.specs.Numbers.{code, codes, counted}
 use Rattle.codec.specs.Reading.{Stands}
 use Rattle.modelfile.specs.Files.{bits_of, numbers, longest, RisingRow, Wide, targets_of}
-use Rattle.modelfile.specs.FirstFault.{Spot, at_size, at_label, at_degree, at_target, before, Right, RightLabels, Reached, Fails, FirstFault, Denotes}
-use Rattle.modelfile.specs.Walks.{SameFile, LabelsRead, RowsRead, TargetsRead}
+use Rattle.modelfile.specs.FirstFault.{Spot, at_label, at_degree, at_target, before, Right, Reached, Fails, FirstFault}
+use Rattle.modelfile.specs.Walks.{LabelsRead, RowsRead, TargetsRead}
 use Rattle.modelfile.specs.declared.faults.FileFault.{FileFault}
 use Rattle.modelfile.specs.declared.scan.Room.{Room}
-use Rattle.modelfile.specs.declared.scan.Reader.{Reader}
+use Rattle.modelfile.specs.declared.scan.Source.{Source}
+use Rattle.modelfile.specs.declared.scan.Cursor.{Cursor}
 use Rattle.modelfile.proofs.Rise.{lowest_more}
 
 pub codes_push : (ns : List ℕ) (n : ℕ) → codes ns ++ code n ≡ codes (ns ++ (n ∷ []))
@@ -44,16 +45,9 @@ module _ (t : Room) (file : List ℕ) where
   pub place_is : (s : Spot) (at : ℕ) → Reached t file s at → at ≡ length (codes (before s))
   place_is s at reached = let h = reached.inside in sym (length-take-le at file h) ∙ ap length reached.text
 
-  pub started : Reached t file at_size 0
-  started = record { inside = omega arith; right = tt; text = refl }
-
 -- what a reader has read, one number on
-module _ (r q : Reader) (same : SameFile r q) where
-  -- the spot that it comes to
-  comes_to : (s : Spot) → Reached r.room r.file.now s q.at → Reached q.room q.file.now s q.at
-  comes_to s reached = rw (same.file, same.room) reached
-
-  pub labels_more : (count facts : ℕ) → LabelsRead r count → count < r.states → Stands r.file.now r.at facts q.at → q.targets ≡ r.targets → LabelsRead q (count + 1)
+module _ (f : Source) (r q : Cursor) where
+  pub labels_more : (count facts : ℕ) → LabelsRead f r count → count < f.states → Stands f.file.now r.at facts q.at → q.targets ≡ r.targets → LabelsRead f q (count + 1)
   labels_more count facts read few there targets =
       let x : Facts = record { bits = facts } in
       let right = read.reached.right in
@@ -63,20 +57,18 @@ module _ (r q : Reader) (same : SameFile r q) where
         labels = read.labels ++ (x ∷ []);
         many = omega arith;
         none = targets ∙ read.none;
-        reached = rw same.states (comes_to (at_label r.states (read.labels ++ (x ∷ [])))
-            (onward r.room r.file.now (at_label r.states read.labels) (at_label r.states (read.labels ++ (x ∷ []))) r.at facts q.at read.reached there
+        reached = onward f.room f.file.now (at_label f.states read.labels) (at_label f.states (read.labels ++ (x ∷ []))) r.at facts q.at read.reached there
             (record { sized = right.sized; held = right.held; few = omega arith; wide = All-push Wide read.labels x right.wide there.small })
-            (ap (λ ns. r.states ∷ ns) (sym (map_push (λ (y : Facts). y.bits) read.labels x)))));
+            (ap (λ ns. f.states ∷ ns) (sym (map_push (λ (y : Facts). y.bits) read.labels x)));
       }
 
   -- one target more is read
-  pub targets_more : (count degree have low target : ℕ) → TargetsRead r count degree have low → have < degree → Stands r.file.now r.at target q.at → target < r.states → low ≤ target → r.targets < r.room.targets → q.targets ≡ r.targets + 1 →
-      TargetsRead q count degree (have + 1) (target + 1)
+  pub targets_more : (count degree have low target : ℕ) → TargetsRead f r count degree have low → have < degree → Stands f.file.now r.at target q.at → target < f.states → low ≤ target → r.targets < f.room.targets → q.targets ≡ r.targets + 1 →
+      TargetsRead f q count degree (have + 1) (target + 1)
   targets_more count degree have low target read more there below above room targets =
       let sized = read.sized in
       let counted' = read.counted in
       let given' = read.given in
-      let states = same.states in
       let right = read.reached.right in
       let ranged = right.ranged in
       let long = length_push read.targets target in
@@ -91,8 +83,7 @@ module _ (r q : Reader) (same : SameFile r q) where
         counted = omega arith;
         given = omega arith;
         lowest = lowest_more read.targets target rises;
-        reached = comes_to (at_target read.labels read.rows degree (read.targets ++ (target ∷ [])))
-            (onward r.room r.file.now (at_target read.labels read.rows degree read.targets) (at_target read.labels read.rows degree (read.targets ++ (target ∷ []))) r.at target q.at read.reached there
+        reached = onward f.room f.file.now (at_target read.labels read.rows degree read.targets) (at_target read.labels read.rows degree (read.targets ++ (target ∷ []))) r.at target q.at read.reached there
             (record {
               complete = right.complete;
               next = right.next;
@@ -101,30 +92,13 @@ module _ (r q : Reader) (same : SameFile r q) where
               rising = record { rises = rises; below = All-push (λ u. u < length read.labels) read.targets target right.rising.below is_state };
               held = omega arith;
             })
-            (append_assoc (numbers read.labels read.rows) (degree ∷ read.targets) (target ∷ [])));
+            (append_assoc (numbers read.labels read.rows) (degree ∷ read.targets) (target ∷ []));
       }
 
 -- what a reader has read, seen otherwise
-module _ (r : Reader) where
-  -- all labels are read, and rows come next
-  pub rows_none : LabelsRead r r.states → RowsRead r 0
-  rows_none read =
-      let many = read.many in
-      let none = read.none in
-      let right = subst (λ m. RightLabels r.room m read.labels) (sym many) read.reached.right in
-      record {
-        labels = read.labels;
-        rows = [];
-        sized = many;
-        many = refl;
-        counted = sym none;
-        reached = turned r.room r.file.now (at_label r.states read.labels) (at_degree read.labels []) r.at read.reached
-            (record { labelled = right; few = omega arith; rising = tt; held = omega arith })
-            (ap (λ m. m ∷ bits_of read.labels) (sym many) ∙ sym (append-nil (length read.labels ∷ bits_of read.labels)));
-      }
-
+module _ (f : Source) (r : Cursor) where
   -- a whole row is read
-  pub rows_more : (count degree have low : ℕ) → TargetsRead r count degree have low → degree ≤ have → RowsRead r (count + 1)
+  pub rows_more : (count degree have low : ℕ) → TargetsRead f r count degree have low → degree ≤ have → RowsRead f r (count + 1)
   rows_more count degree have low read all =
       let sized = read.sized in
       let many = read.many in
@@ -144,7 +118,7 @@ module _ (r : Reader) where
         sized = sized;
         many = omega arith;
         counted = omega arith;
-        reached = turned r.room r.file.now (at_target read.labels read.rows degree read.targets) (at_degree read.labels (read.rows ++ (read.targets ∷ []))) r.at read.reached
+        reached = turned f.room f.file.now (at_target read.labels read.rows degree read.targets) (at_degree read.labels (read.rows ++ (read.targets ∷ []))) r.at read.reached
             (record {
               labelled = right.complete.labelled;
               few = omega arith;
@@ -152,17 +126,4 @@ module _ (r : Reader) where
               held = omega arith;
             })
             (ap (λ d. numbers read.labels read.rows ++ (d ∷ read.targets)) whole ∙ numbers_push read.labels read.rows read.targets);
-      }
-
-  -- all rows are read, and nothing is left over
-  pub all_read : (read : RowsRead r r.states) → length r.file.now ≤ r.at → Denotes r.room r.file.now read.labels read.rows
-  all_read read end =
-      let sized = read.sized in
-      let many = read.many in
-      let right = read.reached.right in
-      record {
-        short = r.short;
-        valid = record { sized = right.labelled.sized; wide = right.labelled.wide; each = omega arith; rising = right.rising };
-        held = (right.labelled.held, right.held);
-        text = sym (take_all r.at r.file.now end) ∙ read.reached.text;
       }

@@ -27,22 +27,27 @@ pub struct Plan {
     pub labels_at: usize,
 }
 
-// A file whose N is read: so many targets are read too, and the next number begins at `at`.
+// A file whose N is read, and the room for it.
 #[derive(Drop)]
-struct Reader<'a> {
+struct Source<'a> {
     file: &'a [u8],
     room: Room,
     states: u16,
-    targets: usize,
-    at: usize,
     ghost short: { length file.now ≤ longest },
 }
 
-impl<'a> Reader<'a> {
-    ghost use Rattle.modelfile.specs.Walks.{LabelsRead, RowsRead, TargetsRead, SameFile, Begun};
+// So many targets are read, and the next number begins at `at`.
+#[derive(Drop)]
+struct Cursor {
+    targets: usize,
+    at: usize,
+}
+
+impl<'a> Source<'a> {
+    ghost use Rattle.modelfile.specs.Walks.{LabelsRead, RowsRead, TargetsRead, Begun};
 
     // Reads N.
-    fn begin(file: &'a [u8], room: Room) -> Result<Reader<'a>, FileFault>
+    fn begin(file: &'a [u8], room: Room) -> Result<(Source<'a>, Cursor), FileFault>
         ensures { MatchResult result (Begun file.now room) (FirstFault room file.now) }
     {
         if file.len() > LONGEST {
@@ -55,77 +60,82 @@ impl<'a> Reader<'a> {
         if size as usize > room.labels || size as usize >= room.offsets {
             return Err(FileFault::TableShort(0));
         }
-        Ok(Reader {
+        let source = Source {
             file,
             room,
             states: size as u16,
-            targets: 0,
-            at: next,
-        })
+        };
+        Ok((
+            source,
+            Cursor {
+                targets: 0,
+                at: next,
+            },
+        ))
     }
 
     // Reads the labels.
-    fn labels(&mut self) -> Result<(), FileFault>
-        requires { LabelsRead self.old 0 }
-        ensures { MatchResult result (λ _. SameFile self.old self.new × LabelsRead self.new self.old.states) (FirstFault self.old.room self.old.file.now) }
+    fn labels(&self, read: &mut Cursor) -> Result<(), FileFault>
+        requires { LabelsRead self.now read.old 0 }
+        ensures { MatchResult result (λ _. LabelsRead self.now read.new self.now.states) (FirstFault self.now.room self.now.file.now) }
     {
         for _label in 0..self.states {
-            let (_facts, next) = number_at(self.file, self.at)?;
-            self.at = next;
+            let (_facts, next) = number_at(self.file, read.at)?;
+            read.at = next;
         }
         Ok(())
     }
 
     // Reads the degree of the next row.
-    fn degree(&mut self) -> Result<u16, FileFault>
-        ensures { (rows : ℕ) → rows < self.old.states → RowsRead self.old rows → MatchResult result (λ degree. SameFile self.old self.new × TargetsRead self.new rows degree 0 0) (FirstFault self.old.room self.old.file.now) }
+    fn degree(&self, read: &mut Cursor) -> Result<u16, FileFault>
+        ensures { (rows : ℕ) → rows < self.now.states → RowsRead self.now read.old rows → MatchResult result (λ degree. TargetsRead self.now read.new rows degree 0 0) (FirstFault self.now.room self.now.file.now) }
     {
-        let (degree, next) = number_at(self.file, self.at)?;
+        let (degree, next) = number_at(self.file, read.at)?;
         if degree > self.states as u64 {
-            return Err(FileFault::OutOfRange(self.at));
+            return Err(FileFault::OutOfRange(read.at));
         }
-        self.at = next;
+        read.at = next;
         Ok(degree as u16)
     }
 
     // Reads the next target of a row, of which `low` is the least that may come, and answers the least that may follow.
-    fn target(&mut self, low: u64) -> Result<u64, FileFault>
-        ensures { (rows degree given : ℕ) → given < degree → TargetsRead self.old rows degree given low → MatchResult result (λ after. SameFile self.old self.new × TargetsRead self.new rows degree (given + 1) after) (FirstFault self.old.room self.old.file.now) }
+    fn target(&self, read: &mut Cursor, low: u64) -> Result<u64, FileFault>
+        ensures { (rows degree given : ℕ) → given < degree → TargetsRead self.now read.old rows degree given low → MatchResult result (λ after. TargetsRead self.now read.new rows degree (given + 1) after) (FirstFault self.now.room self.now.file.now) }
     {
-        let (target, next) = number_at(self.file, self.at)?;
+        let (target, next) = number_at(self.file, read.at)?;
         if target >= self.states as u64 {
-            return Err(FileFault::OutOfRange(self.at));
+            return Err(FileFault::OutOfRange(read.at));
         }
         if target < low {
-            return Err(FileFault::NotRising(self.at));
+            return Err(FileFault::NotRising(read.at));
         }
-        if self.targets >= self.room.targets {
-            return Err(FileFault::TableShort(self.at));
+        if read.targets >= self.room.targets {
+            return Err(FileFault::TableShort(read.at));
         }
-        self.targets += 1;
-        self.at = next;
+        read.targets += 1;
+        read.at = next;
         Ok(target + 1)
     }
 
     // Reads the next row.
-    fn row(&mut self) -> Result<(), FileFault>
-        ensures { (rows : ℕ) → rows < self.old.states → RowsRead self.old rows → MatchResult result (λ _. SameFile self.old self.new × RowsRead self.new (rows + 1)) (FirstFault self.old.room self.old.file.now) }
+    fn row(&self, read: &mut Cursor) -> Result<(), FileFault>
+        ensures { (rows : ℕ) → rows < self.now.states → RowsRead self.now read.old rows → MatchResult result (λ _. RowsRead self.now read.new (rows + 1)) (FirstFault self.now.room self.now.file.now) }
     {
-        let degree = self.degree()?;
+        let degree = self.degree(read)?;
         let mut low = 0;
         for _target in 0..degree {
-            low = self.target(low)?;
+            low = self.target(read, low)?;
         }
         Ok(())
     }
 
     // Reads all rows.
-    fn rows(&mut self) -> Result<(), FileFault>
-        requires { RowsRead self.old 0 }
-        ensures { MatchResult result (λ _. SameFile self.old self.new × RowsRead self.new self.old.states) (FirstFault self.old.room self.old.file.now) }
+    fn rows(&self, read: &mut Cursor) -> Result<(), FileFault>
+        requires { RowsRead self.now read.old 0 }
+        ensures { MatchResult result (λ _. RowsRead self.now read.new self.now.states) (FirstFault self.now.room self.now.file.now) }
     {
         for _state in 0..self.states {
-            self.row()?;
+            self.row(read)?;
         }
         Ok(())
     }
@@ -135,16 +145,16 @@ impl<'a> Reader<'a> {
 pub fn scan(file: &[u8], room: Room) -> Result<Plan, FileFault>
     ensures { MatchResult result (Planned room file.now) (FirstFault room file.now) }
 {
-    let mut reader = Reader::begin(file, room)?;
-    let labels_at = reader.at;
-    reader.labels()?;
-    reader.rows()?;
-    if reader.at < file.len() {
-        return Err(FileFault::LeftOver(reader.at));
+    let (source, mut read) = Source::begin(file, room)?;
+    let labels_at = read.at;
+    source.labels(&mut read)?;
+    source.rows(&mut read)?;
+    if read.at < file.len() {
+        return Err(FileFault::LeftOver(read.at));
     }
     Ok(Plan {
-        states: reader.states,
-        targets: reader.targets,
+        states: source.states,
+        targets: read.targets,
         labels_at,
     })
 }

@@ -1,7 +1,7 @@
 use Rattle.std.proofs.Common.{◌≤◌, refl, arith}
 use Rattle.modelfile.specs.FirstFault.{at_target}
 use Rattle.modelfile.proofs.Walking.{stops, targets_more}
-use Rattle.modelfile.proofs.scan.Reader.target.Goals as goal
+use Rattle.modelfile.proofs.scan.Source.target.Goals as goal
 
 pub returns-then-target-low : goal.returns-then-target-low
 returns-then-target-low c rows degree given more read =
@@ -11,18 +11,15 @@ returns-then-target-low c rows degree given more read =
     stops _ _ (at_target read.labels read.rows degree read.targets) _ _ c.args.self.now.short read.reached
     (omega arith, refl, (target, c.in_ok-target.next, c.in_ok-target.ensures, (omega arith, λ rises. omega (arith, (read.lowest target).1 rises))))
 
-pub returns-then-self : goal.returns-then-self
-returns-then-self c rows degree given more read =
+pub returns-then-read-self : goal.returns-then-read-self
+returns-then-read-self c rows degree given more read =
     let have = read.given in
     let sized = read.sized in
     let counted = read.counted in
     let target = c.in_ok-target.target in
-    let full : c.args.self.now.room.targets ≤ c.args.self.now.targets = omega arith in
+    let full : c.args.self.now.room.targets ≤ c.args.read.now.targets = omega arith in
     stops _ _ (at_target read.labels read.rows degree read.targets) _ _ c.args.self.now.short read.reached
     (omega arith, refl, (target, c.in_ok-target.next, c.in_ok-target.ensures, (omega arith, (read.lowest target).0 c.if-target-low.false, λ room. omega arith)))
 
 pub returns : goal.returns
-returns c rows degree given more read = (
-  record { file = refl; room = refl; states = refl },
-  targets_more _ _ (record { file = refl; room = refl; states = refl }) _ _ _ _ _ read more c.in_ok-target.ensures (omega arith) (omega arith) (omega arith) refl,
-)
+returns c rows degree given more read = targets_more _ _ _ _ _ _ _ _ read more c.in_ok-target.ensures (omega arith) (omega arith) (omega arith) refl
