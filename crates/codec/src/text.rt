@@ -58,6 +58,7 @@ impl Piece for Field {
     }
 }
 
+// Kept: like a file's series of numbers, but a From between widths is a relation, and a ghost text needs a function.
 /// A field for each of the numbers.
 #[derive(Clone, Copy, Debug, PartialEq, Eq)]
 pub struct Fields<'a>(pub &'a [u64]);
