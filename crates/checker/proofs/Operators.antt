@@ -1,9 +1,10 @@
--- Truth carried over to other moves and other operands, among the states below n.
+-- Truth carried over to other operands, and paths to other moves as well, among the states below n.
 use Rattle.std.proofs.Common.{ℕ, zero, suc, ◌<◌, ◌≤◌, ◌↔◌, List, inl, inr, ⊎_elim, arith}
 use Rattle.kripke.specs.Words.{Words}
 use Rattle.kripke.specs.Models.{Frame}
 use Rattle.kripke.specs.Paths.{Move, Until as Ends, Stays}
 use Rattle.sets.specs.declared.Set.{Set}
+use Rattle.sets.specs.Sets.{In}
 use Rattle.survey.specs.Gaps.{Linked}
 use Rattle.checker.specs.declared.steps.Step.{Step}
 use Rattle.checker.specs.declared.steps.Step.TheVariants.{True, Word, Not, Or, Until, Globally}
@@ -33,32 +34,45 @@ abbrev pub SameAt : ℕ → (ℕ → Type 0) → (ℕ → Type 0) → Type 0
 SameAt n P P' = (s : ℕ) → s < n → P s ↔ P' s
 
 -- a step asks only for the operands that it takes
-pub step_over : (n : ℕ) (R R' : ℕ → ℕ → Type 0) → Carries n R R' → Carries n R' R → (words : ℕ → Words) (P P' Q Q' : ℕ → Type 0) (x : Step) →
-    (1 ≤ takes x → SameAt n P P') → (2 ≤ takes x → SameAt n Q Q') → SameAt n (TrueAt R n words x P Q) (TrueAt R' n words x P' Q')
-step_over n R R' to from words P P' Q Q' True p q s h = (λ t. t, λ t. t)
-step_over n R R' to from words P P' Q Q' (Word a) p q s h = (λ t. t, λ t. t)
-step_over n R R' to from words P P' Q Q' Not p q s h =
+pub step_over : (n : ℕ) (R : ℕ → ℕ → Type 0) → Carries n R R → (words : ℕ → Words) (P P' Q Q' : ℕ → Type 0) (x : Step) →
+    (1 ≤ takes x → SameAt n P P') → (2 ≤ takes x → SameAt n Q Q') → SameAt n (TrueAt R n words x P Q) (TrueAt R n words x P' Q')
+step_over n R moves words P P' Q Q' True p q s h = (λ t. t, λ t. t)
+step_over n R moves words P P' Q Q' (Word a) p q s h = (λ t. t, λ t. t)
+step_over n R moves words P P' Q Q' Not p q s h =
     let e = p (omega arith) s h in
     (λ no y. no (e.1 y), λ no y. no (e.0 y))
-step_over n R R' to from words P P' Q Q' Or p q s h =
+step_over n R moves words P P' Q Q' Or p q s h =
     let e = p (omega arith) s h in
     let d = q (omega arith) s h in
     (⊎_elim (λ y. inl (e.0 y)) (λ y. inr (d.0 y)), ⊎_elim (λ y. inl (e.1 y)) (λ y. inr (d.1 y)))
-step_over n R R' to from words P P' Q Q' Until p q s h =
+step_over n R moves words P P' Q Q' Until p q s h =
     let e = p (omega arith) in
     let d = q (omega arith) in (
-      λ y. (y.0, ends-over n R R' to P P' (λ t l. (e t l).0) Q Q' (λ t l. (d t l).0) y.0 s h y.1),
-      λ y. (y.0, ends-over n R' R from P' P (λ t l. (e t l).1) Q' Q (λ t l. (d t l).1) y.0 s h y.1),
+      λ y. (y.0, ends-over n R R moves P P' (λ t l. (e t l).0) Q Q' (λ t l. (d t l).0) y.0 s h y.1),
+      λ y. (y.0, ends-over n R R moves P' P (λ t l. (e t l).1) Q' Q (λ t l. (d t l).1) y.0 s h y.1),
     )
-step_over n R R' to from words P P' Q Q' Globally p q s h =
+step_over n R moves words P P' Q Q' Globally p q s h =
     let e = p (omega arith) in (
-      stays-over n R R' to P P' (λ t l. (e t l).0) n s h,
-      stays-over n R' R from P' P (λ t l. (e t l).1) n s h,
+      stays-over n R R moves P P' (λ t l. (e t l).0) n s h,
+      stays-over n R R moves P' P (λ t l. (e t l).1) n s h,
     )
 
--- by the moves of a table a step is true where it is by the moves of the frame
-pub table_over : (F : Frame) (rows : List Set) → Linked F rows → (words : ℕ → Words) (P Q : ℕ → Type 0) (x : Step) →
-    SameAt F.size (TrueAt (Goes rows) F.size words x P Q) (TrueAt (Move F) F.size words x P Q)
-table_over F rows linked words P Q x =
-    step_over F.size (Goes rows) (Move F) (λ a b l p. let v = (linked.states a l b).0 p in (v.2, v)) (λ a b l p. (p.2, (linked.states a l b).1 p))
-    words P P Q Q x (λ _ s h. (λ p. p, λ p. p)) (λ _ s h. (λ p. p, λ p. p))
+-- the moves of a table are those of the frame
+module _ (F : Frame) (rows : List Set) (linked : Linked F rows) (f : Set) where
+  onto : Carries F.size (Goes rows) (Move F)
+  onto a b l p = let v = (linked.states a l b).0 p in (v.2, v)
+
+  back : Carries F.size (Move F) (Goes rows)
+  back a b l p = (p.2, (linked.states a l b).1 p)
+
+  pub until_linked : (g : Set) (k s : ℕ) → s < F.size → Ends (Goes rows) (In f) (In g) k s ↔ Ends (Move F) (In f) (In g) k s
+  until_linked g k s h = (
+    ends-over F.size (Goes rows) (Move F) onto (In f) (In f) (λ t l p. p) (In g) (In g) (λ t l p. p) k s h,
+    ends-over F.size (Move F) (Goes rows) back (In f) (In f) (λ t l p. p) (In g) (In g) (λ t l p. p) k s h,
+  )
+
+  pub stays_linked : (k s : ℕ) → s < F.size → Stays (Goes rows) (In f) k s ↔ Stays (Move F) (In f) k s
+  stays_linked k s h = (
+    stays-over F.size (Goes rows) (Move F) onto (In f) (In f) (λ t l p. p) k s h,
+    stays-over F.size (Move F) (Goes rows) back (In f) (In f) (λ t l p. p) k s h,
+  )

@@ -50,7 +50,7 @@ module _ (M : Kripke) where
   made-is : (step : Step) (f g : Formula) (x y v : Set) → (1 ≤ takes step → SetIs M f x) → (2 ≤ takes step → SetIs M g y) → Made step x y v →
       (s : ℕ) → s < M.frame.size → In v s ↔ TrueAt (Move M.frame) M.frame.size M.labels.words step (Holds M f) (Holds M g) s
   made-is step f g x y v p q made s h =
-      let over = step_over M.frame.size (Move M.frame) (Move M.frame) (λ a b l p. (p.2, p)) (λ a b l p. (p.2, p)) M.labels.words (In x) (Holds M f) (In y) (Holds M g) step p q s h in
+      let over = step_over M.frame.size (Move M.frame) (λ a b l p. (p.2, p)) M.labels.words (In x) (Holds M f) (In y) (Holds M g) step p q s h in
       (λ i. over.0 ((made s h).0 i), λ i. (made s h).1 (over.1 i))
 
   sets-after : (step : Step) (fs : List Formula) (xs : List Set) (v : Set) → takes step ≤ length fs → SetsAre M fs xs →

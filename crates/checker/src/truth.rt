@@ -65,6 +65,7 @@ impl<'a, M: KripkeModel> Field<'a, M> {
     }
 
     // Where a step is true, of the sets where its operands are, which it takes off the stack.
+    #[tactic(auto, using(crate::proofs::Operators::until_linked, crate::proofs::Operators::stays_linked))]
     fn apply(&self, step: Step, operands: &mut Stack<'_, Set>) -> Set
         requires { takes step ≤ length operands.old.held }
         ensures made { (s : ℕ) → s < (M.Model.means self.now).frame.size → In result s ↔ TrueAt (Move (M.Model.means self.now).frame) (M.Model.means self.now).frame.size (M.Model.means self.now).labels.words step (In (slice_index_or operands.old.held (takes step - 1) none)) (In (slice_index_or operands.old.held 0 none)) s }
