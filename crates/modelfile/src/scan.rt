@@ -65,13 +65,11 @@ impl<'a> Source<'a> {
             room,
             states: size as u16,
         };
-        Ok((
-            source,
-            Cursor {
-                targets: 0,
-                at: next,
-            },
-        ))
+        let read = Cursor {
+            targets: 0,
+            at: next,
+        };
+        Ok((source, read))
     }
 
     // Reads the labels.

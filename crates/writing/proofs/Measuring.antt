@@ -9,7 +9,7 @@ use Rattle.models.specs.declared.facts.Facts.{Facts}
 use Rattle.codec.specs.Numbers.{code, codes, counted}
 use Rattle.codec.specs.Pieces.{placed}
 use Rattle.codec.proofs.Joins.{joined-append}
-use Rattle.modelfile.specs.Files.{bits_of, file_of, numbers, Sized, RisingRow}
+use Rattle.modelfile.specs.Files.{file_of, numbers, Sized, RisingRow}
 use Rattle.modelfile.proofs.Walking.{numbers_push}
 use Rattle.writing.specs.Saves.{rows_of, Labels, SaveFault, Measured}
 use Rattle.writing.specs.Savings.{RowRefused}
