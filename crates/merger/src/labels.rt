@@ -21,6 +21,7 @@ pub(crate) fn facts_of<M: Model>(model: &M, components: &Partition) -> [u64; 128
 }
 
 // The components by their words, numbered by first component.
+// Kept: a table and a count; the type of a slice has no bound of 128, so the `requires` would stay.
 pub(crate) fn label_classes(facts: &[u64; 128], count: usize) -> Partition
     requires { count ≤ 128 }
     ensures len { result.len ≡ count }

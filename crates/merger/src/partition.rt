@@ -33,6 +33,7 @@ fn find_like(heads: Set, rows: &[Set; 128], k: usize) -> Option<usize>
 }
 
 // The items below `len`, those together that are of one class and have the same row.
+// Kept: a table and a count, as in `numbered` and `by_rows`; the type of a slice has no bound of 128, so `few` would stay.
 fn part(rows: &[Set; 128], class: &[u8; 128], len: usize) -> Partition
     requires few { len ≤ 128 }
     requires low { (k : ℕ) → k < len → at class.now k < 128 }
@@ -41,6 +42,7 @@ fn part(rows: &[Set; 128], class: &[u8; 128], len: usize) -> Partition
 {
     let mut parted = Partition::new();
     // of each old class: the first item of each new class in it
+    // Kept: a table of fixed size, since the libraries take no heap.
     let mut heads = [Set::NONE; 128];
     for (k, &own) in class[..len].iter().enumerate() {
         let own = own as usize;

@@ -40,7 +40,7 @@ impl Analysis {
 
     /// Opens a model, then makes the calls in order. The answer to call `i` is put into place `i` of `answers`, if it has one;
     /// `out` is the model that `Call::Reduced` fills.
-    // Kept: two slices of scratch as in open; calls and answers are two slices, since there may be places for fewer answers than calls.
+    // Kept: two slices as in open; calls and answers are two also, since there may be places for fewer answers than calls.
     pub fn perform<M: Model>(
         &mut self,
         model: &M,

@@ -25,6 +25,7 @@ fn is_clear(eight: &[u8; 8]) -> bool
 }
 
 // What is in `all`, or in the set of some component that the row marks, from `from` up to `end`.
+// Kept: tables with two places; with eight marks and a slice of sets, rounds took 6 to 13 in a hundred more instructions.
 fn union_between(row: &[u8; 128], sets: &[Set; 128], from: usize, end: usize, all: Set) -> Set
     requires { (from ≤ end) × (end ≤ 128) }
     ensures { (c : ℕ) → In result c ↔ (In all c ⊎ ((l : ℕ) × (from ≤ l) × (l < end) × (at row.now l ≡ 1) × In (set_at sets.now l) c)) }
@@ -36,23 +37,6 @@ fn union_between(row: &[u8; 128], sets: &[Set; 128], from: usize, end: usize, al
         }
     }
     more
-}
-
-// What is in the set of some component below `count` that the row marks.
-// Kept: a table and a count; of a slice of sets the length must be at most 128 as well, since there are as many marks.
-fn union_of_marked(row: &[u8; 128], sets: &[Set; 128], count: usize) -> Set
-    requires { count ≤ 128 }
-    ensures { (c : ℕ) → In result c ↔ ((l : ℕ) × (l < count) × (at row.now l ≡ 1) × In (set_at sets.now l) c) }
-{
-    let mut all = Set::NONE;
-    let (eights, _) = row.as_chunks::<8>();
-    for (block, eight) in eights[..count.div_ceil(8)].iter().enumerate() {
-        if !is_clear(eight) {
-            let from = block * 8;
-            all = union_between(row, sets, from, count.min(from + 8), all);
-        }
-    }
-    all
 }
 
 // Clears the marks of the components in `gone`.
@@ -87,7 +71,17 @@ impl Reach {
         requires { k < classes.now.len }
         ensures { (c : ℕ) → In result c ↔ ((l : ℕ) × (l < classes.now.len) × On self.now k l × In (set_at sets.now l) c) }
     {
-        union_of_marked(&self.rows[k], sets, classes.len())
+        let count = classes.len();
+        let row = &self.rows[k];
+        let mut all = Set::NONE;
+        let (eights, _) = row.as_chunks::<8>();
+        for (block, eight) in eights[..count.div_ceil(8)].iter().enumerate() {
+            if !is_clear(eight) {
+                let from = block * 8;
+                all = union_between(row, sets, from, count.min(from + 8), all);
+            }
+        }
+        all
     }
 
     // Clears the pairs of components that were parted.

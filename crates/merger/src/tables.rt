@@ -23,6 +23,7 @@ pub struct Found {
 }
 
 // What the rounds alter.
+// Kept: apart from Found, though both are handed on side by side: one is lent while the other is written.
 #[derive(Drop)]
 pub struct Rounds {
     pub(crate) made: usize,
@@ -33,6 +34,7 @@ pub struct Rounds {
 }
 
 // The table that has what `make` gives at each of `places`, and `blank` at the others.
+// Kept: a table of fixed size, since the libraries take no heap.
 pub(crate) fn table<T: Copy, F: Fn(usize) -> T>(blank: T, places: Set, make: F) -> [T; 128]
     requires can { (k : ℕ) → In places k → k < 128 → F.pre make k }
     ensures made { (k : ℕ) (d : T) → In places k → F.post make k (slice_index_or result k d) }
