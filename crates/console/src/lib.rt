@@ -52,6 +52,7 @@ impl Tables {
         }
     }
 
+    // Kept: like the model of lent tables, but nothing is lent here, and all targets are taken.
     /// The model that was loaded, if it has so many states.
     pub fn model(&self, states: usize) -> Listed<'_, Facts>
         ensures labels { result.labels.now ≡ take states self.now.labels.items }

@@ -48,7 +48,7 @@ impl Analysis {
     }
 
     /// Opens a model, in place of what was opened before. The memory lent for walk records and state numbers is free afterwards.
-    // Kept: two slices side by side, each scratch of its own; of a struct of both, every call would say that it holds both still.
+    // Kept: callers lend two pieces of scratch, each refused by its own length; this form of `open` is a rule of the project.
     pub fn open<M: Model>(
         &mut self,
         model: &M,

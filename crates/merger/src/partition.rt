@@ -172,7 +172,7 @@ impl Partition {
     {
         let mut all = Set::NONE;
         let mut left = items;
-        // Kept: a turn drops a whole class; a `for` over the items was tried, and ran a quarter longer where moves are many.
+        // no `for` over the items: a turn drops a whole class, which saves a quarter of the instructions where moves are many
         while let Some((k, rest)) = left.split_first() {
             let class = self.class_of(k);
             all = all.with(class);

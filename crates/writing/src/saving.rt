@@ -29,6 +29,7 @@ fn labels_width<M: Model>(model: &M) -> usize
     wide
 }
 
+// Kept: an array for the most moves, since the library takes no heap.
 // A table with room for the moves of any state.
 type Row = [u16; LIMIT as usize];
 
