@@ -7,5 +7,7 @@ mod checks;
 #[cfg(test)]
 mod kinds;
 #[cfg(test)]
+mod lists;
+#[cfg(test)]
 mod parts;
 pub mod seen;
