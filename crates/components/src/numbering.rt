@@ -24,6 +24,7 @@ pub fn number(places: &[Place; 128], size: u16, part: &mut [u8; 128]) -> Sizes
     let mut given = [None; 128];
     let mut count = 0;
     let mut many = Set::NONE;
+    // Kept: `part` is written by number; of what is written under `iter_mut().zip(places)` the check knows nothing.
     for (s, place) in places[..size as usize].iter().enumerate() {
         let Place::Done(c) = *place else {
             unreachable!()

@@ -121,6 +121,7 @@ fn read_steps<'s>(numbers: &[u16], steps: &'s mut [Step; STEPS]) -> &'s [Step]
     ensures { result.now ≡ steps_of numbers.now }
 {
     let count = STEPS.min(numbers.len());
+    // Kept: of what is written under `iter_mut().zip(numbers)` the check knows nothing, so each number is read by its place.
     for (k, step) in steps[..count].iter_mut().enumerate() {
         *step = step_of(numbers[k]);
     }

@@ -74,7 +74,7 @@ impl From<WriteFault> for ReduceFault {
 }
 
 impl Outcome {
-    pub fn accepted(length: usize) -> Outcome
+    fn accepted(length: usize) -> Outcome
         ensures { result ≡ accepted length }
     {
         Outcome {
@@ -116,30 +116,37 @@ pub trait Fault {
     // what it tells
     ghost told: { Self → Told };
 
-    fn from(fault: MergeFault) -> Outcome {
-        match fault {
+    fn tell(self) -> Outcome
+        ensures { result ≡ told self };
+}
+
+impl Fault for MergeFault {
+    ghost told = { merge_told };
+
+    fn tell(self) -> Outcome {
+        match self {
             MergeFault::NotTaken(fault) => fault.numbers().into(),
             MergeFault::NoRoom => Outcome::refused(Refusal::ShortBuffer.number()),
         }
     }
 }
 
-impl From<ReduceFault> for Outcome {
-    ghost from_gives = { λ fault r. r ≡ reduce_told fault };
+impl Fault for ReduceFault {
+    ghost told = { reduce_told };
 
-    fn from(fault: ReduceFault) -> Outcome {
-        match fault {
+    fn tell(self) -> Outcome {
+        match self {
             ReduceFault::NotTaken(fault) => fault.numbers().into(),
             ReduceFault::NotSaved(fault) => Outcome::refused(fault.cause()),
         }
     }
 }
 
-impl From<Refused> for Outcome {
-    ghost from_gives = { λ fault r. r ≡ check_told fault };
+impl Fault for Refused {
+    ghost told = { check_told };
 
-    fn from(fault: Refused) -> Outcome {
-        let told = fault.numbers();
+    fn tell(self) -> Outcome {
+        let told = self.numbers();
         Outcome {
             number: told.number,
             place: told.place,

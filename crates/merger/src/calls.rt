@@ -2,7 +2,6 @@
 ghost use Rattle.std.specs.Prelude.{◌≡◌, ℕ, suc, ◌+◌, true, false, MatchResult};
 ghost use Rattle.merger.specs.declared.answers.Refusal.TheVariants.{NothingOpened};
 ghost use Rattle.kripke.specs.Models.{Kripke};
-ghost use Rattle.merger.specs.declared.answers.Refusal.TheVariants.{NothingOpened};
 ghost use Rattle.merger.specs.Calls.{Analysed, OpenAnswer, RoundAnswer, RunAnswer, ClassAnswer, TogetherAnswer, ReducedAnswer, SummaryAnswer};
 
 use crate::advance::advance;

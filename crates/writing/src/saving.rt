@@ -38,6 +38,7 @@ fn gather<'r, M: Model>(model: &M, s: u16, row: &'r mut Row) -> &'r [u16]
     ensures { result.now ≡ (M.Model.means model.now).frame.row s }
 {
     let moves = &mut row[..model.degree(s) as usize];
+    // Kept: of what is written under `iter_mut().zip(model.moves(s))` the check knows nothing, so each move is asked by number.
     for (k, target) in moves.iter_mut().enumerate() {
         *target = model.target(s, k as u16).unwrap_or(NOWHERE);
     }
