@@ -27,6 +27,10 @@ impl<M: KripkeModel> KripkeModel for &M {
         (*self).target(s, k)
     }
 
+    fn row(&self, s: u16) -> Option<&[u16]> {
+        (*self).row(s)
+    }
+
     fn alike(&self, s: u16, t: u16) -> bool {
         (*self).alike(s, t)
     }

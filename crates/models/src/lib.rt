@@ -1,9 +1,10 @@
 //! Labels and models, by the questions that can be asked of them: the merger's two interfaces, and the first kinds of each.
 #![tactic(auto)]
 
-ghost use Rattle.std.specs.Prelude.{◌≡◌, ℕ, length};
+ghost use Rattle.std.specs.Prelude.{◌≡◌, ℕ, length, map, MatchOption};
 ghost use Rattle.kripke.specs.Words.{Words, SameWords, Lawful, TellsSame};
 ghost use Rattle.kripke.specs.Models.{Kripke, WellFormed, TellsAlike, words_at, move};
+ghost use Rattle.kripke.specs.Kinds.{told};
 ghost use Rattle.models.specs.Facts.{fact_words};
 
 use crate::facts::Facts;
@@ -99,6 +100,13 @@ pub trait Model {
         Facts::from_fn(self.words(), |a| self.holds(a, s))
     }
 
+    /// The row of `s` as a slice, from a kind that has it so: a number in it that is no state is a move nowhere.
+    fn row(&self, s: u16) -> Option<&[u16]>
+        ensures { MatchOption result (Unit {0}) (λ row. (means self.now).frame.row s ≡ map (told (means self.now).frame.size) row.now) }
+    {
+        None
+    }
+
     /// Where the moves of the row of `s` go, one after the other.
     final fn moves(&self, s: u16) -> Moves<'_, Self>
     where
@@ -108,6 +116,8 @@ pub trait Model {
         Moves {
             model: self,
             state: s,
+            size: self.size(),
+            row: self.row(s),
             told: 0,
         }
     }

@@ -5,8 +5,9 @@ ghost use Rattle.kripke.specs.Words.{SameWords};
 ghost use Rattle.kripke.proofs.Tables.{listed_formed};
 
 use crate::facts::Facts;
+use crate::moves::landing;
 use crate::{Label, Model as KripkeModel};
-use kripke::{LIMIT, NOWHERE};
+use kripke::LIMIT;
 
 // A label for each state, one offset more, and the targets of all rows, one row after the other. Any tables will do:
 // those that do not fit each other have no states, and an offset that is out of order has an empty row.
@@ -31,7 +32,7 @@ impl<L> Listed<'_, L> {
     }
 
     // The row of `s` as the tables have it.
-    fn row(&self, s: u16) -> &[u16]
+    fn span(&self, s: u16) -> &[u16]
         ensures { result.now ≡ table_row (listed_size self.now.labels.now self.now.offsets.now) self.now.offsets.now self.now.targets.now s }
     {
         if s >= self.state_count() {
@@ -77,14 +78,16 @@ impl<L: Label> KripkeModel for Listed<'_, L> {
     }
 
     fn degree(&self, s: u16) -> u16 {
-        self.row(s).len() as u16
+        self.span(s).len() as u16
     }
 
     fn target(&self, s: u16, k: u16) -> Option<u16> {
         let n = self.state_count();
-        self.row(s)
-            .get(k as usize)
-            .map(|t| if *t < n { *t } else { NOWHERE })
+        self.span(s).get(k as usize).map(|t| landing(n, *t))
+    }
+
+    fn row(&self, s: u16) -> Option<&[u16]> {
+        Some(self.span(s))
     }
 
     fn alike(&self, s: u16, t: u16) -> bool {
