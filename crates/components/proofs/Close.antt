@@ -1,146 +1,133 @@
--- The walk leaves a state from which no lower one is reached: what stands from it up is a component.
-use Rattle.std.proofs.Common.{◌≡◌, ℕ, ◌+◌, ◌<◌, ◌≤◌, ◌⊎◌, List, [], ◌∷◌, length, sym, refl, ap, ◌∙◌, subst, inl, inr, ⊎_elim, arith}
-use Rattle.std.specs.List.{AllByRecursion}
-use Rattle.std.proofs.lemmas.Bool.{cases_lt}
-use Rattle.components.specs.Reach.{Edge, Leads, target}
-use Rattle.components.specs.Walks.{Mark, Pending, Settled, IsDone, Listed, Inv, Turned}
-use Rattle.components.specs.declared.marks.Place.{Place}
-use Rattle.components.specs.declared.marks.Place.TheVariants.{Unseen, Open, Done}
+-- The newest stretch of the way moves nowhere but into itself and into components: it is a component.
+use Rattle.std.proofs.Common.{◌≡◌, ℕ, ◌<◌, ◌++◌, ◌⊎◌, ◌↔◌, List, length, sym, ap, ◌∙◌, subst, inl, inr, ⊎_elim, arith}
+use Rattle.std.proofs.lemmas.List.{length-append}
+use Rattle.sets.specs.declared.Set.{Set}
+use Rattle.sets.specs.Sets.{In}
+use Rattle.sets.proofs.Bits.{in_dec}
+use Rattle.stack.specs.Held.{pushed}
+use Rattle.components.specs.Reach.{Leads}
+use Rattle.components.specs.Rows.{Edge}
+use Rattle.components.specs.Numbers.{number}
+use Rattle.components.specs.Search.{Stacked, Done, Turns, Going, Shuts}
 use Rattle.components.specs.declared.marks.Walk.{Walk}
-use Rattle.components.proofs.Laws.{join, along, open_open, open_done, unseen_open, unseen_done, to_top}
+use Rattle.components.specs.declared.search.Search.{Search}
+use Rattle.components.proofs.Laws.{along, any_some}
 
-done_is : (p : Place) → IsDone p → (d : ℕ) × (p ≡ Done d)
-done_is Unseen h = absurd h
-done_is (Open q) h = absurd h
-done_is (Done d) h = (d, refl)
+module _ (rows : List Set) (S : Search) (w : Walk) (S' : Search) (X : Shuts S w S') (G : Going rows (record S { walk = pushed S.walk w }))
+    (inside : (t : ℕ) → In w.moves t → In S.undone t → In w.states t) where
+  abbrev E : ℕ → ℕ → Type 0
+  E = Edge rows
 
-module _ (rows : ℕ → List ℕ) (P P' : ℕ → Place) (nums nums' : List ℕ) (c : ℕ) (w : Walk) (ws : List Walk) (I : Inv rows P nums (w ∷ ws) c)
-    (all : length (rows w.state) ≤ w.next) (low : w.low ≡ w.at) (turn : Turned P P' w.at c) where
-  was-open : (s j : ℕ) → P' s ≡ Open j → (P s ≡ Open j) × (j < w.at)
-  was-open s j o = look (P s) refl
-    where
-      look : (p : Place) → P s ≡ p → (P s ≡ Open j) × (j < w.at)
-      look Unseen e = absurd (unseen_open (turn.unseen s e) o)
-      look (Done d) e = absurd (open_done o (turn.done s d e))
-      look (Open i) e = ⊎_elim
-          (λ lt. let same : i ≡ j = open_open (turn.left s i e lt) o in (e ∙ ap Open same, omega arith))
-          (λ ge. absurd (open_done o (turn.gone s i e ge)))
-          (cases_lt i w.at)
+  was : (s : ℕ) → Done rows S' s → Done rows S s ⊎ In w.states s
+  was s d = ⊎_elim inr (λ n. inl (d.0, λ o. d.1 ((X.undone s).1 (o, n)))) (in_dec w.states.bits s)
 
-  -- what is done: before, or from w up
-  Old : ℕ → Type 0
-  Old s = (d : ℕ) × (P s ≡ Done d)
+  not : (s : ℕ) → Done rows S s → In w.states s → ⊥
+  not s d p = d.1 (G.on s (inl p))
 
-  New : ℕ → Type 0
-  New s = (j : ℕ) × (P s ≡ Open j) × (w.at ≤ j)
+  new : (s : ℕ) → In w.states s → Done rows S' s
+  new s p = (G.states s (G.on s (inl p)), λ o. ((X.undone s).0 o).1 p)
 
-  was-done : (s d : ℕ) → P' s ≡ Done d → (P s ≡ Done d) ⊎ (New s × (d ≡ c))
-  unfolding New
-  was-done s d o = look (P s) refl
-    where
-      look : (p : Place) → P s ≡ p → (P s ≡ Done d) ⊎ (New s × (d ≡ c))
-      look Unseen e = absurd (unseen_done (turn.unseen s e) o)
-      look (Done b) e = let f : P' s ≡ Done b = turn.done s b e in inl (e ∙ sym f ∙ o)
-      look (Open i) e = ⊎_elim
-          (λ lt. absurd (open_done (turn.left s i e lt) o))
-          (λ ge. let f : P' s ≡ Done c = turn.gone s i e ge in inr ((i, e, ge), cc))
-          (cases_lt i w.at)
+  old : (s : ℕ) → Done rows S s → Done rows S' s
+  old s d = (d.0, λ o. d.1 ((X.undone s).0 o).0)
 
-  old-on : (a b : ℕ) → Edge rows a b → Old a → Old b
-  unfolding Old
-  old-on a b e h = done_is (P b) (subst (λ x. IsDone (P x)) e.2 (I.shut a h.0 e.0 h.1 e.1))
+  kept : (s : ℕ) → Done rows S s → number S'.component s ≡ number S.component s
+  kept s d = X.others s (not s d)
 
-  settled : (j : ℕ) → w.at ≤ j → (p : Place) → Settled (w ∷ ws) j p → ((d : ℕ) × (p ≡ Done d)) ⊎ ((q : ℕ) × (p ≡ Open q) × (w.at ≤ q))
-  settled j le Unseen h = absurd h
-  settled j le (Done d) h = inl (d, refl)
-  settled j le (Open q) (inl h) = inr (q, refl, omega arith)
-  settled j le (Open q) (inr h) = absurd (omega (arith, h.0))
+  -- a move of a state that is done goes to one
+  on-done : (s t : ℕ) → E s t → Done rows S s → Done rows S t
+  on-done s t e d = (e.1, G.shut s t d e)
 
-  below-w : (vs : List Walk) → AllByRecursion (λ v. v.at < w.at) vs → AllByRecursion (Mark rows P) vs → (s j k : ℕ) → P s ≡ Open j → w.at ≤ j → Pending vs s k → ⊥
-  below-w [] r m s j k o le p = p
-  below-w (v ∷ vs) r m s j k o le (inl p) =
-      let e : v.at ≡ j = open_open m.0.0 (ap P p.0 ∙ o) in omega (arith, r.0)
-  below-w (v ∷ vs) r m s j k o le (inr p) = below-w vs r.1 m.1 s j k o le p
+  out : (s t : ℕ) → In w.states s → E s t → In w.states t ⊎ Done rows S t
+  out s t p e = ⊎_elim
+      (λ o. inl (inside t ((G.way.0.moves t).1 (s, p, e.2)) o))
+      (λ n. inr (e.1, n))
+      (in_dec S.undone.bits t)
 
-  new-on : (a b : ℕ) → Edge rows a b → New a → Old b ⊎ New b
-  unfolding Old New
-  new-on a b e h =
-      ⊎_elim
-      (⊎_elim
-      (λ p. let f : length (rows w.state) ≡ length (rows a) = ap (λ x. length (rows x)) p.0 in absurd (omega (arith, p.1, e.1)))
-      (λ p. absurd (below-w ws I.climbs.0 I.marks.1 a h.0 e.0 h.1 h.2 p)))
-      (λ d. settled h.0 h.2 (P b) (subst (λ x. Settled (w ∷ ws) h.0 (P x)) e.2 d))
-      (I.moves a h.0 e.0 h.1 e.1)
+  shut' : (s t : ℕ) → Done rows S' s → E s t → In S'.undone t → ⊥
+  shut' s t d e o =
+      let u = (X.undone t).0 o in
+      ⊎_elim (λ a. G.shut s t a e u.0) (λ p. ⊎_elim u.1 (λ b. b.1 u.0) (out s t p e)) (was s d)
 
-  is-done : (s : ℕ) → Old s ⊎ New s → IsDone (P' s)
-  unfolding Old New
-  is-done s (inl h) = subst IsDone (sym (turn.done s h.0 h.1)) tt
-  is-done s (inr h) = subst IsDone (sym (turn.gone s h.0 h.1 h.2)) tt
+  same' : (s t : ℕ) → Done rows S' s → Done rows S' t → number S'.component s ≡ number S'.component t → Leads E s t
+  same' s t ds dt q = ⊎_elim
+      (λ a. ⊎_elim
+      (λ b. G.same s t a b (sym (kept s a) ∙ q ∙ kept t b))
+      (λ b. absurd (omega (arith, G.below s a, kept s a, X.closed t b)))
+      (was t dt))
+      (λ a. ⊎_elim
+      (λ b. absurd (omega (arith, G.below t b, kept t b, X.closed s a)))
+      (λ b. G.way.0.joined s t a b)
+      (was t dt))
+      (was s ds)
 
-  shut' : (s d k : ℕ) → P' s ≡ Done d → k < length (rows s) → IsDone (P' (target rows s k))
-  unfolding Old New
-  shut' s d k o l = ⊎_elim
-      (λ h. is-done _ (inl (old-on s _ (k, l, refl) (d, h))))
-      (λ h. is-done _ (new-on s _ (k, l, refl) h.0))
-      (was-done s d o)
+  clash : (s t : ℕ) → Done rows S s → In w.states t → Leads E s t → ⊥
+  clash s t d p l = not t (along (Done rows S) (λ a b e. on-done a b e) l d) p
 
-  through : (s t : ℕ) → New s → New t → Leads rows s t
-  unfolding New
-  through s t hs ht = join (to_top rows P nums w ws c I s hs.0 hs.1) (I.onward w.state t w.at ht.0 I.marks.0.0 ht.1 ht.2)
+  apart' : (s t : ℕ) → Done rows S' s → Done rows S' t → Leads E s t → Leads E t s → number S'.component s ≡ number S'.component t
+  apart' s t ds dt l m = ⊎_elim
+      (λ a. ⊎_elim
+      (λ b. kept s a ∙ G.apart s t a b l m ∙ sym (kept t b))
+      (λ b. absurd (clash s t a b l))
+      (was t dt))
+      (λ a. ⊎_elim
+      (λ b. absurd (clash t s b a m))
+      (λ b. X.closed s a ∙ sym (X.closed t b))
+      (was t dt))
+      (was s ds)
 
-  one' : (s t d : ℕ) → P' s ≡ Done d → P' t ≡ Done d → Leads rows s t
-  one' s t d os ot = ⊎_elim
-      (λ hs. ⊎_elim (λ ht. I.one s t d hs ht) (λ ht. absurd (omega (arith, I.below s d hs, ht.1))) (was-done t d ot))
-      (λ hs. ⊎_elim (λ ht. absurd (omega (arith, I.below t d ht, hs.1))) (λ ht. through s t hs.0 ht.0) (was-done t d ot))
-      (was-done s d os)
+  cyclic' : (d : ℕ) → In S'.cyclic d ↔ Turns rows S' d
+  cyclic' d = (
+    (λ h. ⊎_elim
+        (λ o.
+        let p = (G.cyclic d).0 o in
+        let b = on-done p.0 p.1 p.3 p.2 in
+        (p.0, p.1, old p.0 p.2, p.3, kept p.0 p.2 ∙ p.4, kept p.1 b ∙ p.5))
+        (λ n.
+        let t : ℕ = n.1.0 in
+        let a = (G.way.0.moves t).0 n.1.1 in
+        (a.0, t, new a.0 a.1, ((new a.0 a.1).0, (new t n.1.2).0, a.2), X.closed a.0 a.1 ∙ sym n.0, X.closed t n.1.2 ∙ sym n.0))
+        ((X.cyclic d).0 h)),
+    (λ p. (X.cyclic d).1 (⊎_elim
+        (λ a.
+        let b = on-done p.0 p.1 p.3 a in
+        inl ((G.cyclic d).1 (p.0, p.1, a, p.3, sym (kept p.0 a) ∙ p.4, sym (kept p.1 b) ∙ p.5)))
+        (λ a.
+        let e : d ≡ S.count = sym p.4 ∙ X.closed p.0 a in
+        inr (
+          e,
+          ⊎_elim
+              (λ i. (p.1, (G.way.0.moves p.1).1 (p.0, a, p.3.2), i))
+              (λ b. absurd (omega (arith, G.below p.1 b, kept p.1 b, e, p.5)))
+              (out p.0 p.1 a p.3),
+        ))
+        (was p.0 p.2))),
+  )
 
-  clash : (s t d : ℕ) → P s ≡ Done d → New t → Leads rows s t → ⊥
-  unfolding Old New
-  clash s t d h n p = let o : Old t = along Old old-on p (d, h) in open_done n.1 o.1
+  taken : S'.numbers.held ≡ G.stacked.1
+  taken = X.taken G.stacked.0 G.stacked.1 G.stacked.2 G.stacked.3
 
-  apart' : (s t d e : ℕ) → P' s ≡ Done d → P' t ≡ Done e → Leads rows s t → Leads rows t s → d ≡ e
-  apart' s t d e os ot p q = ⊎_elim
-      (λ hs. ⊎_elim (λ ht. I.apart s t d e hs ht p q) (λ ht. absurd (clash s t d hs ht.0 p)) (was-done t e ot))
-      (λ hs. ⊎_elim (λ ht. absurd (clash t s e ht hs.0 q)) (λ ht. hs.1 ∙ sym ht.1) (was-done t e ot))
-      (was-done s d os)
+  -- some are taken off the number stack
+  fewer : length S'.numbers.held < length S.numbers.held
+  fewer =
+      let some = any_some (λ x. x ≡ G.way.0.some.0) G.stacked.0 ((G.stacked.4 G.way.0.some.0).0 G.way.0.some.1) in
+      let all : length S.numbers.held ≡ length (G.stacked.0 ++ G.stacked.1) = ap length G.stacked.2 in
+      omega (arith, some, all, length-append G.stacked.0 G.stacked.1, ap length taken)
 
-  marks' : (vs : List Walk) → AllByRecursion (λ v. v.at < w.at) vs → AllByRecursion (Mark rows P) vs → AllByRecursion (Mark rows P') vs
-  marks' [] r m = tt
-  marks' (v ∷ vs) r m =
-      let lt : v.at < w.at = r.0 in
-      let le : v.low ≤ v.at = m.0.1 in
-      ((turn.left _ _ m.0.0 lt, le, (m.0.2.0, turn.left _ _ m.0.2.1 (omega arith), m.0.2.2)), marks' vs r.1 m.1)
-
-  settle' : (j : ℕ) → j < w.at → (b : ℕ) (p : Place) → P b ≡ p → Settled (w ∷ ws) j p → Settled ws j (P' b)
-  settle' j l b Unseen e h = absurd h
-  settle' j l b (Done d) e h = subst (Settled ws j) (sym (turn.done b d e)) tt
-  settle' j l b (Open q) e h = ⊎_elim
-      (λ lt. subst (Settled ws j) (sym (turn.left b q e lt)) (⊎_elim (λ a. absurd (omega arith)) (λ a. a.1) h))
-      (λ ge. subst (Settled ws j) (sym (turn.gone b q e ge)) tt)
-      (cases_lt q w.at)
-
-  moves' : (s j k : ℕ) → P' s ≡ Open j → k < length (rows s) → Pending ws s k ⊎ Settled ws j (P' (target rows s k))
-  moves' s j k o l =
-      let h : (P s ≡ Open j) × (j < w.at) = was-open s j o in
-      ⊎_elim
-      (⊎_elim (λ p. let e : w.at ≡ j = open_open I.marks.0.0 (ap P p.0 ∙ h.0) in absurd (omega (arith, h.1))) inl)
-      (λ d. inr (settle' j h.1 (target rows s k) _ refl d))
-      (I.moves s j k h.0 l)
-
-  pub close : Listed P' nums' → Inv rows P' nums' ws (c + 1)
-  close stacked = record {
-    climbs = I.climbs.1;
-    marks = marks' ws I.climbs.0 I.marks.1;
-    onward = λ s t i j os ot. I.onward s t i j (was-open s i os).0 (was-open t j ot).0;
-    back = λ s j o. let h : (P s ≡ Open j) × (j < w.at) = was-open s j o in ⊎_elim (λ b. absurd (omega (arith, b.0, h.1))) (λ b. b) (I.back s j h.0);
-    moves = moves';
+  pub closed : Going rows S'
+  closed = subst (Going rows) (sym X.rest) (record {
+    way = G.way.3;
+    stacked = subst (Stacked S.walk.held) (sym taken) G.stacked.5;
+    states = λ s o. G.states s ((X.undone s).0 o).0;
+    unmet = λ s h. let p = G.unmet s h in ((X.undone s).1 (p.0, λ q. p.1 (inl q)), λ o. p.1 (inr o));
+    on = λ s o. (X.undone s).1 (G.on s (inr o), λ p. G.way.1 s p o);
+    met = λ s o n. let p = (X.undone s).0 o in ⊎_elim (λ a. absurd (p.1 a)) (λ b. b) (G.met s p.0 n);
     shut = shut';
-    one = one';
+    same = same';
     apart = apart';
-    below = λ s d o. ⊎_elim (λ h. omega (arith, I.below s d h)) (λ h. omega (arith, h.1)) (was-done s d o);
-    used = λ d l. ⊎_elim
-        (λ lt. let u : (s : ℕ) × (P s ≡ Done d) = I.used d lt in (u.0, turn.done u.0 d u.1))
-        (λ ge. let e : c ≡ d = omega arith in (w.state, turn.gone w.state w.at I.marks.0.0 (omega arith) ∙ ap Done e))
-        (cases_lt d c);
-    stacked = stacked;
-  }
+    below = λ s d. ⊎_elim (λ a. omega (arith, G.below s a, kept s a)) (λ a. omega (arith, X.closed s a)) (was s d);
+    cyclic = cyclic';
+    few = G.few;
+    wide = X.wide ∙ G.wide;
+    numbers = (omega (arith, fewer, G.numbers.0), G.numbers.1);
+    walks = (omega (arith, G.walks.0), G.walks.1);
+  })

@@ -1,170 +1,97 @@
--- Each step of the search keeps what is promised, and leaves less to do.
-use Rattle.std.proofs.Common.{◌≡◌, ℕ, ◌+◌, ◌<◌, ◌≤◌, min, List, [], ◌∷◌, length, set, sym, refl, ap, ◌∙◌, subst, Some, None, ⊎_elim, arith}
-use Rattle.std.proofs.lemmas.Bool.{cases_eq, cases_lt}
-use Rattle.std.proofs.lemmas.List.{get_or-set_same, get_or-set_other, length-set}
-use Rattle.std.specs.List.{AllByRecursion}
-use Rattle.kripke.specs.Models.{Frame, Kripke, WellFormed, move}
-use Rattle.components.specs.Inner.{inner}
-use Rattle.components.specs.Reach.{target}
-use Rattle.components.specs.Walks.{Mark, Listed, Inv, Fit, spot, unmet, unseen, left_over, marked, lowest_top}
-use Rattle.components.specs.Search.{RoomForOne, Going, Shuts, walking, entered, followed, lowered}
-use Rattle.components.specs.declared.marks.Place.{Place}
-use Rattle.components.specs.declared.marks.Place.TheVariants.{Unseen, Open, Done}
+-- The steps of the search, each of which lessens what is left.
+use Rattle.std.proofs.Common.{◌≡◌, ℕ, true, not, eqb, ◌↔◌, ◌+◌, ◌^◌, ◌<◌, List, [], length, Option, Some, None, sym, ap, ◌∙◌, subst, inl, ⊎_elim, arith}
+use Rattle.std.specs.Prelude.{MatchOption}
+use Rattle.std.proofs.lemmas.Bool.{eqb-false, not-true}
+use Rattle.sets.specs.declared.Set.{Set}
+use Rattle.sets.specs.Sets.{In}
+use Rattle.sets.proofs.Bits.{On as OnBit, some_in, none_in}
+use Rattle.stack.specs.Held.{Held, pushed}
+use Rattle.components.specs.Search.{On, Going, Resting, Entered, Joins, Shuts, RoomForOne, Next, walking, walked, amount}
 use Rattle.components.specs.declared.marks.Walk.{Walk}
 use Rattle.components.specs.declared.search.Search.{Search}
-use Rattle.components.proofs.Laws.{at-below, unseen_open}
-use Rattle.components.proofs.Unseen.{unseen_some, unseen_put, turned_count, turned_unseen}
-use Rattle.components.proofs.Discover.{discover}
-use Rattle.components.proofs.Look.{pass_done, pass_open}
-use Rattle.components.proofs.Leave.{leave, not_alone}
-use Rattle.components.proofs.Close.{close}
-use Rattle.components.proofs.Inner.{inner_short, inner_some, inner-none}
+use Rattle.components.proofs.Laws.{goes}
+use Rattle.components.proofs.Amount.{amount_some}
+use Rattle.components.proofs.Enter.{within, less, entered}
+use Rattle.components.proofs.Join.{joined}
+use Rattle.components.proofs.Close.{closed}
 
--- a step: the search goes on well, has less left to do, and forgets no state
-pub record Next (G : Frame) (S S' : Search) : Type 0 where
-  pub going : Going G S'
-  pub falls : left_over G (spot S'.place) S'.walk.held < left_over G (spot S.place) S.walk.held
-  pub seen : (s : ℕ) → spot S'.place s ≡ Unseen → spot S.place s ≡ Unseen
+-- a set that is not empty has a member
+pub member : (x : Set) → x.bits < 2 ^ 128 → 0 < x.bits → (t : ℕ) × In x t
+member x fits some = let r = some_in 128 x.bits fits some in (r.0, r.2)
 
--- w is the top of the walk
-module _ (G : Frame) (S : Search) (w : Walk) (on : Going G (walking S w)) where
-  pub state_inside : w.state < G.size
-  state_inside = ⊎_elim (λ lt. lt) (λ ge. absurd (unseen_open (on.fits.outside w.state ge) on.keeps.marks.0.0)) (cases_lt w.state G.size)
+-- one that is empty has none
+pub no_member : (x : Set) → x.bits ≡ 0 → (t : ℕ) → In x t → ⊥
+no_member x e t h = none_in t (subst (λ (b : ℕ). OnBit b t) e h)
 
-  pub at-inside : w.at < length S.numbers.held
-  at-inside = at-below S.numbers.held w.state w.at (on.keeps.stacked.listed w.state w.at on.keeps.marks.0.0)
+-- w moves to a state that is on the way before it
+abbrev pub Back : Search → Walk → Type 0
+Back S w = (t : ℕ) × In w.moves t × In S.undone t × (In w.states t → ⊥) × (In S.unmet t → ⊥)
 
-  pub count_inside : S.count < G.size
-  count_inside = omega (arith, at-inside, on.fits.numbers)
+-- there is one where some state is ahead, and none of those ahead is still to be met
+pub back : (S : Search) (w : Walk) (there ahead fresh : Set) → ((t : ℕ) → In there t ↔ (In w.moves t × In S.undone t)) →
+    ((t : ℕ) → In ahead t ↔ (In there t × (In w.states t → ⊥))) → ((t : ℕ) → In fresh t ↔ (In ahead t × In S.unmet t)) →
+    ahead.bits < 2 ^ 128 → true ≡ not (eqb ahead.bits 0) → fresh.bits ≡ 0 → Back S w
+back S w there ahead fresh is-there is-ahead is-fresh fits some none =
+    let more = eqb-false ahead.bits 0 (not-true (eqb ahead.bits 0) (sym some)) in
+    let m = member ahead fits (omega (arith, more)) in
+    let a = (is-ahead m.0).0 m.1 in
+    let b = (is-there m.0).0 a.0 in
+    (m.0, b.0, b.1, a.1, λ u. no_member fresh none m.0 ((is-fresh m.0).1 (m.1, u)))
 
-  module _ (short : (s : ℕ) → length (G.row s) ≤ 4096) (t : ℕ) (inside : t < G.size)
-      (there : w.next < length (G.row w.state)) (goal : target G.row w.state w.next ≡ t) where
-    pub room : spot S.place t ≡ Unseen → RoomForOne S × (length S.walk.held < S.walk.room)
-    room new =
-        let some : 0 < unseen G.size (spot S.place) = unseen_some G.size (spot S.place) t inside new in (
-          (omega (arith, on.room.few, on.fits.numbers), omega (arith, on.room.numbers, on.fits.numbers)),
-          omega (arith, on.room.walk, on.fits.walks),
-        )
+-- a state that is not met finds room
+pub room : (rows : List Set) (S : Search) (t : ℕ) → Going rows S → In S.unmet t → (t < 128) × (t < length rows) × RoomForOne S
+room rows S t G new =
+    let l = within rows S t G new in
+    (omega (arith, l, G.few), l, omega (arith, amount_some (length rows) S.unmet t l new, G.numbers.0, G.numbers.1))
 
-    -- the top has looked at one move more
-    looked : (l : ℕ) → Inv G.row (spot S.place) S.numbers.held (marked w l ∷ S.walk.held) S.count → Next G (walking S w) (walking S (marked w l))
-    looked l i = record {
-      going = record {
-        keeps = i;
-        fits = record { outside = on.fits.outside; numbers = on.fits.numbers; walks = on.fits.walks };
-        room = on.room;
-        wide = on.wide;
-      };
-      falls = omega arith;
-      seen = λ s u. u;
-    }
+-- a walk begins
+pub begun : (rows : List Set) (S S' : Search) (t : ℕ) → Resting rows S → In S.unmet t → Entered rows S t S' → Going rows S'
+begun rows S S' t R new X = entered rows S t R.0 new S' X (λ s o. absurd (subst (λ ws. On ws s) R.1 o))
 
-    met : spot S.place t ≡ Unseen → Next G (walking S w) (entered (walking S (marked w w.low)) t)
-    met new =
-        let q : ℕ = length S.numbers.held in
-        let P' : ℕ → Place = spot (set S.place t (Open q)) in
-        let put : P' t ≡ Open q = get_or-set_same S.place t (Open q) Unseen (omega (arith, on.wide)) in
-        let else : (s : ℕ) → (s ≡ t → ⊥) → P' s ≡ spot S.place s = λ s ne. get_or-set_other S.place t s (Open q) Unseen ne in
-        let one : unseen G.size (spot S.place) ≡ unseen G.size P' + 1 = unseen_put G.size (spot S.place) P' t inside new (ap unmet put) else in
-        record {
-          going = record {
-            keeps = discover G.row (spot S.place) P' S.numbers.held t new put else S.count w S.walk.held on.keeps there goal;
-            fits = record {
-              outside = λ s l. else s (λ e. omega arith) ∙ on.fits.outside s l;
-              numbers = omega (arith, on.fits.numbers);
-              walks = omega (arith, on.fits.walks);
-            };
-            room = on.room;
-            wide = omega (arith, on.wide, length-set S.place t (Open q));
-          };
-          falls = omega (arith, short t);
-          seen = λ s u. ⊎_elim (λ e. absurd (unseen_open (ap P' (sym e) ∙ u) put)) (λ ne. sym (else s ne) ∙ u) (cases_eq s t);
-        }
+module _ (rows : List Set) (S : Search) (w : Walk) (G : Going rows (walking S w)) where
+  -- it goes on to t
+  pub enter_step : (walk : Held Walk) (S' : Search) (t : ℕ) → walk ≡ pushed S.walk w → Entered rows (record S { walk = walk }) t S' →
+      In w.moves t → In S.unmet t → Next rows (walking S w) S'
+  enter_step walk S' t e X m new =
+      let Y : Entered rows (walking S w) t S' = subst (λ (h : Held Walk). Entered rows (record S { walk = h }) t S') e X in
+      let fewer = less rows (walking S w) t G new S' Y in
+      let long : length S'.walk.held ≡ length S.walk.held + 2 = ap (λ (T : Search). length T.walk.held) Y.rest ∙ omega arith in
+      record {
+        going = entered rows (walking S w) t G new S' Y
+            (goes rows w S.walk.held G.way (λ s i. G.states s (G.on s (inl i))) t m (within rows (walking S w) t G new));
+        falls = omega (arith, fewer, long);
+        seen = omega (arith, fewer);
+      }
 
-    -- a move is looked at
-    pub next_followed : (p : Place) → spot S.place t ≡ p → Next G (walking S w) (followed p S w t)
-    next_followed Unseen e = met e
-    next_followed (Open q) e = looked (min w.low q) (pass_open G.row (spot S.place) S.numbers.held S.count w S.walk.held on.keeps q there (ap (spot S.place) goal ∙ e))
-    next_followed (Done d) e = looked w.low (pass_done G.row (spot S.place) S.numbers.held S.count w S.walk.held on.keeps d (ap (spot S.place) goal ∙ e))
+  -- it goes back
+  pub join_step : (S' : Search) → Joins S w S' → Back S w → Next rows (walking S w) S'
+  join_step S' X b =
+      let long : length S'.walk.held ≡ length X.others.held + 1 = ap (λ (T : Search). length T.walk.held) X.rest ∙ omega arith in
+      let was : length S.walk.held ≡ length X.others.held + 1 = ap (λ (h : Held Walk). length h.held) X.two ∙ omega arith in
+      let same : amount (length rows) S'.unmet ≡ amount (length rows) S.unmet = ap (λ (T : Search). amount (length rows) T.unmet) X.rest in
+      record {
+        going = joined rows S w S' X G b.0 b.1 b.2 b.3 b.4;
+        falls = omega (arith, long, was, same);
+        seen = omega (arith, same);
+      }
 
-  module _ (done : length (G.row w.state) ≤ w.next) where
-    -- a mark that is at its own place is above that of the one below
-    unlowered : w.low ≡ w.at → lowest_top S.walk.held w.low ≡ S.walk.held
-    unlowered low = same S.walk.held on.keeps.climbs.0 on.keeps.marks.1
-      where
-        same : (ws : List Walk) → AllByRecursion (λ v. v.at < w.at) ws → AllByRecursion (Mark G.row (spot S.place)) ws → lowest_top ws w.low ≡ ws
-        same [] below marks = refl
-        same (v ∷ vs) below marks =
-            let e : min v.low w.low ≡ v.low = omega (arith, below.0, marks.0.1) in
-            ap (λ l. record { state = v.state; at = v.at; next = v.next; low = l } ∷ vs) e
+  -- there is something to go back to
+  pub may_join : Back S w → S.walk.held ≡ [] → ⊥
+  may_join b e = ⊎_elim b.3 (λ o. subst (λ ws. On ws b.0) e o) (G.met b.0 b.2 b.4)
 
-    -- a component is closed
-    pub next_shut : w.low ≡ w.at → (S' : Search) → Shuts (lowered S w.low) S' w.at → Next G (walking S w) S'
-    next_shut low S' h' =
-        let h : Shuts S S' w.at = subst (λ ws. Shuts (record S { walk = record S.walk { held = ws } }) S' w.at) (unlowered low) h' in
-        let same : unseen G.size (spot S'.place) ≡ unseen G.size (spot S.place) = turned_count (spot S.place) (spot S'.place) w.at S.count h.turned G.size in
-        let len : length S'.numbers.held ≡ w.at = h.len in
-        subst (Next G (walking S w)) (sym h.rest) (record {
-          going = record {
-            keeps = close G.row (spot S.place) (spot S'.place) S.numbers.held S'.numbers.held S.count w S.walk.held on.keeps done low h.turned h.stacked;
-            fits = record {
-              outside = λ s l. h.turned.unseen s (on.fits.outside s l);
-              numbers = omega (arith, on.fits.numbers, at-inside);
-              walks = omega (arith, on.fits.walks);
-            };
-            room = on.room;
-            wide = omega (arith, on.wide, h.wide);
-          };
-          falls = omega arith;
-          seen = turned_unseen (spot S.place) (spot S'.place) w.at S.count h.turned;
-        })
+  popped : (S₁ : Search) (walk : Held Walk) (o : Option Walk) → MatchOption o ((S₁.walk.held ≡ []) × (walk ≡ S₁.walk)) (λ x. S₁.walk ≡ pushed walk x) →
+      walked (record S₁ { walk = walk }) o ≡ S₁
+  popped S₁ walk None p = ap (λ (h : Held Walk). record S₁ { walk = h }) p.1
+  popped S₁ walk (Some x) p = ap (λ (h : Held Walk). record S₁ { walk = h }) (sym p)
 
-    -- the low mark is handed on to the one below
-    pub next_passed : (w.low ≡ w.at → ⊥) → Next G (walking S w) (lowered S w.low)
-    next_passed low = handed S.walk.held on.keeps on.fits
-      where
-        handed : (ws : List Walk) → Inv G.row (spot S.place) S.numbers.held (w ∷ ws) S.count → Fit G.size (spot S.place) S.numbers.held (w ∷ ws) S.count →
-            Next G (record S { walk = record S.walk { held = w ∷ ws } }) (record S { walk = record S.walk { held = lowest_top ws w.low } })
-        handed [] i f = absurd (not_alone G.row (spot S.place) S.numbers.held S.count w i (omega (arith, i.marks.0.1)))
-        handed (v ∷ vs) i f = record {
-          going = record {
-            keeps = leave G.row (spot S.place) S.numbers.held S.count w v vs i done (omega (arith, i.marks.0.1));
-            fits = record { outside = f.outside; numbers = f.numbers; walks = omega (arith, f.walks) };
-            room = on.room;
-            wide = on.wide;
-          };
-          falls = omega arith;
-          seen = λ s u. u;
-        }
-
--- the same of a model's inner moves
-module _ (M : Kripke) (formed : WellFormed M) (S : Search) (w : Walk) (on : Going (inner M) (walking S w)) where
-  abbrev G : Frame
-  G = inner M
-
-  -- there is a next move, to t
-  module _ (t : ℕ) (e : Some t ≡ move (G.row w.state) w.next) where
-    goes : (w.next < length (G.row w.state)) × (target G.row w.state w.next ≡ t) × (t < G.size)
-    goes = inner_some M formed w.state w.next t (state_inside G S w on) e
-
-    pub may_follow : (t < 128) × (w.next < 4096) × (spot S.place t ≡ Unseen → RoomForOne S × (length S.walk.held < S.walk.room))
-    may_follow = (
-      omega (arith, goes.2, on.room.few),
-      omega (arith, goes.0, inner_short M formed w.state),
-      room G S w on (inner_short M formed) t goes.2 goes.0 goes.1,
-    )
-
-    pub next_follow : (S' : Search) → S' ≡ followed (spot S.place t) S w t → Next G (walking S w) S'
-    next_follow S' is = subst (Next G (walking S w)) (sym is) (next_followed G S w on (inner_short M formed) t goes.2 goes.0 goes.1 (spot S.place t) refl)
-
-  -- there is none
-  pub may_leave : (S.count < 128) × (w.at ≤ length S.numbers.held) × Listed (spot S.place) S.numbers.held
-  may_leave = (omega (arith, count_inside G S w on, on.room.few), omega (arith, at-inside G S w on), on.keeps.stacked)
-
-  pub next_leave : None ≡ move (G.row w.state) w.next → (S' : Search) → (w.low ≡ w.at → Shuts (lowered S w.low) S' w.at) → ((w.low ≡ w.at → ⊥) → S' ≡ lowered S w.low) → Next G (walking S w) S'
-  next_leave e S' shut passed =
-      let done = inner-none M w.state w.next e in
-      ⊎_elim
-      (λ same. next_shut G S w on done same S' (shut same))
-      (λ ne. subst (Next G (walking S w)) (sym (passed ne)) (next_passed G S w on done ne))
-      (cases_eq w.low w.at)
+  -- it leaves w, which is a component
+  pub close_step : (S₁ : Search) (walk : Held Walk) (o : Option Walk) → Shuts S w S₁ → ((t : ℕ) → In w.moves t → In S.undone t → In w.states t) →
+      MatchOption o ((S₁.walk.held ≡ []) × (walk ≡ S₁.walk)) (λ x. S₁.walk ≡ pushed walk x) → Next rows (walking S w) (walked (record S₁ { walk = walk }) o)
+  close_step S₁ walk o X inside p =
+      let long : length S₁.walk.held ≡ length S.walk.held = ap (λ (T : Search). length T.walk.held) X.rest in
+      let same : amount (length rows) S₁.unmet ≡ amount (length rows) S.unmet = ap (λ (T : Search). amount (length rows) T.unmet) X.rest in
+      subst (Next rows (walking S w)) (sym (popped S₁ walk o p)) (record {
+        going = closed rows S w S₁ X G inside;
+        falls = omega (arith, long, same);
+        seen = omega (arith, same);
+      })

@@ -1,25 +1,81 @@
--- The search: its steps, what they keep true, and what is known when it is over.
-use Rattle.std.specs.Prelude.{◌≡◌, ℕ, ◌+◌, ◌<◌, ◌≤◌, min, List, [], length, replicate, Option, slice_set}
+-- The search over the rows of a table: its way, what its steps keep true, and what is known when it is over.
+use Rattle.std.specs.Prelude.{◌≡◌, ℕ, zero, suc, ◌+◌, ◌*◌, ◌<◌, ◌≤◌, ◌⊎◌, ◌↔◌, ◌≢◌, List, [], ◌∷◌, ◌++◌, length, Option}
 use Rattle.std.specs.List.{cons_option}
-use Rattle.kripke.specs.Models.{Frame}
-use Rattle.stack.specs.Held.{pushed}
+use Rattle.sets.specs.declared.Set.{Set}
+use Rattle.sets.specs.Sets.{bit, In}
+use Rattle.stack.specs.Held.{Held, pushed}
 use Rattle.components.specs.Reach.{Leads}
-use Rattle.components.specs.Walks.{spot, Listed, Inv, Fit, Turned, marked, fresh, lowest_top}
-use Rattle.components.specs.declared.marks.Place.{Place}
-use Rattle.components.specs.declared.marks.Place.TheVariants.{Unseen, Open, Done}
+use Rattle.components.specs.Rows.{row_at, Edge}
+use Rattle.components.specs.Numbers.{number}
 use Rattle.components.specs.declared.marks.Walk.{Walk}
 use Rattle.components.specs.declared.search.Search.{Search}
 
--- a search that has met nothing, with room for so many numbers and walk records
-abbrev pub blank : (numbers walks : ℕ) → Search
-blank numbers walks = record {
-  place = replicate 128 Unseen;
-  count = 0;
-  numbers = record { held = []; room = numbers };
-  walk = record { held = []; room = walks };
-}
+-- of some entry
+abbrev pub Any : {X : Type 0} → (X → Type 0) → List X → Type 0
+Any P [] = ⊥
+Any P (x ∷ xs) = P x ⊎ Any P xs
 
--- a search with w on top of its walk
+-- s is on the way
+abbrev pub On : List Walk → ℕ → Type 0
+On ws s = Any (λ w. In w.states s) ws
+
+-- a stretch of the way: some states that all reach one another, with the moves of all of them
+pub record Stretch (rows : List Set) (w : Walk) : Type 0 where
+  pub some : (s : ℕ) × In w.states s
+  pub moves : (t : ℕ) → In w.moves t ↔ ((s : ℕ) × In w.states s × In (row_at rows s) t)
+  pub joined : (s t : ℕ) → In w.states s → In w.states t → Leads (Edge rows) s t
+
+-- the way, its newest stretch first: no state is on two stretches, and each state leads to those of the newer ones
+abbrev pub Way : List Set → List Walk → Type 0
+Way rows [] = Unit {0}
+Way rows (w ∷ ws) =
+    Stretch rows w
+    × ((s : ℕ) → In w.states s → On ws s → ⊥)
+    × ((s t : ℕ) → On ws s → In w.states t → Leads (Edge rows) s t)
+    × Way rows ws
+
+-- the numbers of the states on the way, those of the newest stretch first
+abbrev pub Stacked : List Walk → List ℕ → Type 0
+Stacked [] nums = nums ≡ []
+Stacked (w ∷ ws) nums =
+    (own rest : List ℕ) × (nums ≡ own ++ rest) × (length rest ≡ w.at) × ((s : ℕ) → In w.states s ↔ Any (λ x. x ≡ s) own) × Stacked ws rest
+
+-- how many of the numbers below n are in a set
+abbrev pub amount : ℕ → Set → ℕ
+amount zero x = 0
+amount (suc n) x = bit x.bits n + amount n x
+
+-- s is a state in a component
+abbrev pub Done : List Set → Search → ℕ → Type 0
+Done rows S s = (s < length rows) × (In S.undone s → ⊥)
+
+-- two states of component d, with a move from one to the other
+abbrev pub Turns : List Set → Search → ℕ → Type 0
+Turns rows S d = (s t : ℕ) × Done rows S s × Edge rows s t × (number S.component s ≡ d) × (number S.component t ≡ d)
+
+-- what holds between any two steps
+pub record Going (rows : List Set) (S : Search) : Type 0 where
+  pub way : Way rows S.walk.held
+  pub stacked : Stacked S.walk.held S.numbers.held
+  pub states : (s : ℕ) → In S.undone s → s < length rows
+  pub unmet : (s : ℕ) → In S.unmet s → In S.undone s × (On S.walk.held s → ⊥)
+  pub on : (s : ℕ) → On S.walk.held s → In S.undone s
+  pub met : (s : ℕ) → In S.undone s → (In S.unmet s → ⊥) → On S.walk.held s
+  pub shut : (s t : ℕ) → Done rows S s → Edge rows s t → In S.undone t → ⊥
+  pub same : (s t : ℕ) → Done rows S s → Done rows S t → number S.component s ≡ number S.component t → Leads (Edge rows) s t
+  pub apart : (s t : ℕ) → Done rows S s → Done rows S t → Leads (Edge rows) s t → Leads (Edge rows) t s → number S.component s ≡ number S.component t
+  pub below : (s : ℕ) → Done rows S s → number S.component s < S.count
+  pub cyclic : (d : ℕ) → In S.cyclic d ↔ Turns rows S d
+  pub few : length rows ≤ 128
+  pub wide : length S.component ≡ 128
+  pub numbers : (amount (length rows) S.unmet + length S.numbers.held + S.count ≤ length rows) × (length rows ≤ S.numbers.room)
+  pub walks : (amount (length rows) S.unmet + length S.walk.held ≤ length rows) × (length rows ≤ S.walk.room)
+
+-- what holds between any two walks
+abbrev pub Resting : List Set → Search → Type 0
+Resting rows S = Going rows S × (S.walk.held ≡ [])
+
+-- a search with w on top of its way
 abbrev pub walking : Search → Walk → Search
 walking S w = record S { walk = pushed S.walk w }
 
@@ -27,60 +83,61 @@ walking S w = record S { walk = pushed S.walk w }
 abbrev pub walked : Search → Option Walk → Search
 walked S o = record S { walk = record S.walk { held = cons_option o S.walk.held } }
 
--- a search with a state put onto both stacks
-abbrev pub entered : Search → ℕ → Search
-entered S s = record S {
-  place = slice_set S.place s (Open (length S.numbers.held));
-  numbers = pushed S.numbers s;
-  walk = pushed S.walk (fresh s (length S.numbers.held));
-}
-
--- a search after a move from the top w of its walk to t, where t stands at a place
-abbrev pub followed : Place → Search → Walk → ℕ → Search
-followed Unseen S w t = entered (walking S (marked w w.low)) t
-followed (Open q) S w t = walking S (marked w (min w.low q))
-followed (Done d) S w t = walking S (marked w w.low)
-
--- a search with a low mark handed on to the top of its walk
-abbrev pub lowered : Search → ℕ → Search
-lowered S l = record S { walk = record S.walk { held = lowest_top S.walk.held l } }
-
--- what stands from place a up is a component, and nothing else is altered
-pub record Shuts (S S' : Search) (a : ℕ) : Type 0 where
-  pub turned : Turned (spot S.place) (spot S'.place) a S.count
-  pub stacked : Listed (spot S'.place) S'.numbers.held
-  pub len : length S'.numbers.held ≡ a
-  pub wide : length S'.place ≡ length S.place
-  pub rest : S' ≡ record S { place = S'.place; count = S.count + 1; numbers = record S.numbers { held = S'.numbers.held } }
-
 -- there is room for one state more
 abbrev pub RoomForOne : Search → Type 0
-RoomForOne S = (length S.numbers.held < 128) × (length S.numbers.held < S.numbers.room)
+RoomForOne S = length S.numbers.held < S.numbers.room
 
--- there is room for the states of a frame
-abbrev pub RoomForAll : Frame → Search → Type 0
-RoomForAll G S = record {
-  few : G.size ≤ 128;
-  numbers : G.size ≤ S.numbers.room;
-  walk : G.size ≤ S.walk.room;
-}
+-- S' is S with state t met: it is a stretch of the way by itself
+pub record Entered (rows : List Set) (S : Search) (t : ℕ) (S' : Search) : Type 0 where
+  pub states : Set
+  pub alone : (s : ℕ) → In states s ↔ (s ≡ t)
+  pub unmet : (s : ℕ) → In S'.unmet s ↔ (In S.unmet s × (s ≢ t))
+  pub rest : S' ≡ record S {
+    unmet = S'.unmet;
+    numbers = pushed S.numbers t;
+    walk = pushed S.walk (record { states = states; moves = row_at rows t; at = length S.numbers.held });
+  }
 
--- what holds between any two steps
-pub record Going (G : Frame) (S : Search) : Type 0 where
-  pub keeps : Inv G.row (spot S.place) S.numbers.held S.walk.held S.count
-  pub fits : Fit G.size (spot S.place) S.numbers.held S.walk.held S.count
-  pub room : RoomForAll G S
-  pub wide : G.size ≤ length S.place
+-- S' is S, whose way ends with w, with its last two stretches made one
+pub record Joins (S : Search) (w : Walk) (S' : Search) : Type 0 where
+  pub below : Walk
+  pub others : Held Walk
+  pub states : Set
+  pub moves : Set
+  pub two : S.walk ≡ pushed others below
+  pub either : (s : ℕ) → In states s ↔ (In below.states s ⊎ In w.states s)
+  pub each : (t : ℕ) → In moves t ↔ (In below.moves t ⊎ In w.moves t)
+  pub rest : S' ≡ record S { walk = pushed others (record { states = states; moves = moves; at = below.at }) }
 
--- what holds between any two walks
-abbrev pub Resting : Frame → Search → Type 0
-Resting G S = Going G S × (S.walk.held ≡ [])
+-- S' is S with the states of w, which stand on top of the number stack, made a component
+pub record Shuts (S : Search) (w : Walk) (S' : Search) : Type 0 where
+  pub undone : (s : ℕ) → In S'.undone s ↔ (In S.undone s × (In w.states s → ⊥))
+  pub closed : (s : ℕ) → In w.states s → number S'.component s ≡ S.count
+  pub others : (s : ℕ) → (In w.states s → ⊥) → number S'.component s ≡ number S.component s
+  pub cyclic : (d : ℕ) → In S'.cyclic d ↔ (In S.cyclic d ⊎ ((d ≡ S.count) × ((t : ℕ) × In w.moves t × In w.states t)))
+  pub wide : length S'.component ≡ length S.component
+  pub taken : (own rest : List ℕ) → S.numbers.held ≡ own ++ rest → length rest ≡ w.at → S'.numbers.held ≡ rest
+  pub rest : S' ≡ record S {
+    undone = S'.undone;
+    component = S'.component;
+    cyclic = S'.cyclic;
+    count = S.count + 1;
+    numbers = record S.numbers { held = S'.numbers.held };
+  }
 
--- the search is over: each state has one of c numbers, each number is some state's, and two states have the same
--- exactly where moves lead both ways
-pub record Searched (G : Frame) (place : List Place) (c : ℕ) : Type 0 where
-  pub few : c ≤ G.size
-  pub each : (s : ℕ) → s < G.size → (d : ℕ) × (spot place s ≡ Done d) × (d < c)
-  pub used : (d : ℕ) → d < c → (s : ℕ) × (s < G.size) × (spot place s ≡ Done d)
-  pub same : (s t d : ℕ) → spot place s ≡ Done d → spot place t ≡ Done d → Leads G.row s t × Leads G.row t s
-  pub apart : (s t d e : ℕ) → spot place s ≡ Done d → spot place t ≡ Done e → Leads G.row s t → Leads G.row t s → d ≡ e
+-- what each step lessens
+abbrev pub left : List Set → Search → ℕ
+left rows S = amount (length rows) S.unmet * 2 + length S.walk.held
+
+-- one step from S to S'
+pub record Next (rows : List Set) (S S' : Search) : Type 0 where
+  pub going : Going rows S'
+  pub falls : left rows S' < left rows S
+  pub seen : amount (length rows) S'.unmet ≤ amount (length rows) S.unmet
+
+-- the search is over: each state has a number below count, and two states have the same exactly where moves lead both ways
+pub record Searched (rows : List Set) (S : Search) : Type 0 where
+  pub below : (s : ℕ) → s < length rows → number S.component s < S.count
+  pub few : S.count ≤ length rows
+  pub same : (s t : ℕ) → s < length rows → t < length rows → number S.component s ≡ number S.component t ↔ (Leads (Edge rows) s t × Leads (Edge rows) t s)
+  pub cyclic : (d : ℕ) → In S.cyclic d ↔ ((s t : ℕ) × Edge rows s t × (number S.component s ≡ d) × (number S.component t ≡ d))

@@ -1,32 +1,22 @@
-//! What the search keeps of each state.
+//! What the search keeps of the way that it came.
+use sets::Set;
 
-/// A state that the search walks from. The memory that is lent for these holds no answer: fill it with `Walk::BLANK`.
+/// A stretch of the way: states that all reach one another. The memory that is lent for these holds no answer: fill it with
+/// `Walk::BLANK`.
 #[derive(Clone, Copy)]
 pub struct Walk {
-    // the state
-    pub(crate) state: u16,
-    // its place on the stack of state numbers
-    pub(crate) at: u8,
-    // the number of its next move
-    pub(crate) next: u16,
-    // the lowest place that it is known to reach
-    pub(crate) low: u8,
+    pub(crate) states: Set,
+    // where these states move to
+    pub(crate) moves: Set,
+    // how many states stand before them on the stack of state numbers
+    pub(crate) at: usize,
 }
 
 impl Walk {
     /// A record to make memory of.
     pub const BLANK: Walk = Walk {
-        state: 0,
+        states: Set::NONE,
+        moves: Set::NONE,
         at: 0,
-        next: 0,
-        low: 0,
     };
-}
-
-// Where a state stands: not met yet, open at a place of the stack of state numbers, or done and in a component.
-#[derive(Clone, Copy)]
-pub enum Place {
-    Unseen,
-    Open(u8),
-    Done(u8),
 }

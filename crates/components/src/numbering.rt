@@ -1,45 +1,42 @@
 //! The components in the order of their first members.
-ghost use Rattle.std.specs.Prelude.{◌≡◌, ℕ, ◌<◌, ◌≤◌};
-ghost use Rattle.components.specs.Walks.{spot};
-ghost use Rattle.components.specs.Numbers.{Numbered};
-ghost use Rattle.components.specs.declared.marks.Place.TheVariants.{Done};
+ghost use Rattle.std.specs.Prelude.{◌≡◌, ℕ, ◌<◌, ◌≤◌, ◌⊎◌, ◌↔◌, true};
+ghost use Rattle.sets.specs.Sets.{In};
+ghost use Rattle.components.specs.Numbers.{number, Numbered};
 
-use crate::marks::Place;
+use crate::{Found, Parts};
 use sets::Set;
 
-// How many components there are, and which of them have more than one member.
-#[derive(Clone, Copy)]
-pub struct Sizes {
-    pub count: u8,
-    pub many: Set,
+// `set`, with `i` besides where `also` says so.
+pub(crate) fn with_if(set: Set, i: usize, also: bool) -> Set
+    ensures { (j : ℕ) → In result j ↔ (In set j ⊎ ((j ≡ i) × (i < 128) × (also ≡ true))) }
+{
+    if also { set.with(i) } else { set }
 }
 
-// Writes the component of each state to the front of `part`, numbered by first member.
-pub fn number(places: &[Place; 128], size: u16, part: &mut [u8; 128]) -> Sizes
+// Writes the component of each state to the front of `part`, numbered by first member, from numbers in any order;
+// `cyclic` has those of the components that hold a cycle.
+pub(crate) fn number(component: &Parts, cyclic: Set, size: usize, part: &mut Parts) -> Found
     requires size { size ≤ 128 }
-    requires done { (s : ℕ) → s < size → (d : ℕ) × (spot places.now s ≡ Done d) × (d < 128) }
-    ensures { Numbered places.now size part.old part.new result.count result.many }
+    requires low { (s : ℕ) → s < size → number component.now s < 128 }
+    ensures { Numbered component.now cyclic size part.old part.new result }
 {
     // Kept: an array of fixed size, since the library takes no heap.
     let mut given = [None; 128];
-    let mut count = 0;
-    let mut many = Set::NONE;
-    // Kept: `part` is written by number; of what is written under `iter_mut().zip(places)` the check knows nothing.
-    for (s, place) in places[..size as usize].iter().enumerate() {
-        let Place::Done(c) = *place else {
-            unreachable!()
-        };
+    let mut found = Found {
+        count: 0,
+        cyclic: Set::NONE,
+    };
+    // Kept: `part` is written by number; of what is written under `iter_mut().zip(component)` the check knows nothing.
+    for (s, &c) in component[..size].iter().enumerate() {
         match given[c as usize] {
-            Some(i) => {
-                part[s] = i;
-                many = many.with(i as usize);
-            }
+            Some(i) => part[s] = i,
             None => {
-                part[s] = count;
-                given[c as usize] = Some(count);
-                count += 1;
+                part[s] = found.count;
+                given[c as usize] = Some(found.count);
+                found.cyclic = with_if(found.cyclic, found.count as usize, cyclic.has(c as usize));
+                found.count += 1;
             }
         }
     }
-    Sizes { count, many }
+    found
 }

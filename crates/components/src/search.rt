@@ -1,134 +1,138 @@
 //! The search: one depth-first walk with two stacks in lent memory.
-ghost use Rattle.std.specs.Prelude.{◌≡◌, ℕ, ◌<◌, ◌≤◌, [], length, ◌≢◌};
-ghost use Rattle.components.specs.Inner.{inner};
-ghost use Rattle.components.specs.Walks.{spot, Listed};
-ghost use Rattle.components.specs.Search.{blank, walking, walked, entered, followed, lowered, Shuts, RoomForOne, Resting, Searched};
-ghost use Rattle.components.specs.declared.marks.Place.TheVariants.{Unseen};
+ghost use Rattle.std.specs.Prelude.{◌≡◌, ℕ, ◌<◌, ◌≤◌, ◌↔◌, ◌++◌, List, [], length, ◌≢◌};
+ghost use Rattle.sets.specs.Sets.{In};
+ghost use Rattle.sets.specs.declared.Set.{Set as States};
+ghost use Rattle.components.specs.Search.{Any, walking, walked, Entered, Joins, Shuts, RoomForOne, Going, Resting, Next, Searched, amount};
 
-use crate::marks::{Place, Walk};
-use crate::moves::inner_move;
-use models::Model;
+use crate::Parts;
+use crate::marks::Walk;
+use crate::numbering::with_if;
+use sets::Set;
 use stack::Stack;
 
-// Where each state stands, how many components are closed, and two stacks: the open states in the order that they were
-// met in, and the way that the walk came. The state that it is at stands beside them.
+// How far a search has come among the states of a table of rows. The stretch of the way that it is at stands beside it.
 #[derive(Drop)]
-pub struct Search<'a> {
-    // Kept: an array for the most states, since the library takes no heap.
-    pub place: [Place; 128],
-    pub count: u8,
+pub(crate) struct Search<'a> {
+    // of each state in a component: the component's number, in the order in which they are closed
+    pub(crate) component: Parts,
+    pub(crate) count: u8,
+    // the components with a move inside
+    pub(crate) cyclic: Set,
+    // the states that are in no component yet, and those of them that are not met yet
+    undone: Set,
+    unmet: Set,
+    // the states on the way, in the order in which they were met
     numbers: Stack<'a, u16>,
+    // the stretches of the way
     walk: Stack<'a, Walk>,
 }
 
 impl<'a> Search<'a> {
-    // Nothing is met yet.
-    pub fn new(walks: &'a mut [Walk], states: &'a mut [u16]) -> Search<'a>
-        ensures { result ≡ blank (length states.old) (length walks.old) }
+    // None of the first `size` states is met yet.
+    pub(crate) fn new(size: usize, walks: &'a mut [Walk], states: &'a mut [u16]) -> Search<'a>
+        requires { (size ≤ 128) × (size ≤ length walks.old) × (size ≤ length states.old) }
+        ensures { (rows : List States) → length rows ≡ size → Resting rows result }
     {
+        let all = Set::below(size);
         Search {
-            place: [Place::Unseen; 128],
+            component: [0; 128],
             count: 0,
+            cyclic: Set::NONE,
+            undone: all,
+            unmet: all,
             numbers: Stack::new(states),
             walk: Stack::new(walks),
         }
     }
-
     // Walks from every state that is not met yet.
-    pub fn walk_all<M: Model>(&mut self, model: &M)
-        requires { Resting (inner (M.Model.means model.now)) self.old }
-        ensures { Searched (inner (M.Model.means model.now)) self.new.place self.new.count }
+    pub(crate) fn walk_all(&mut self, rows: &[Set])
+        requires { Resting rows.now self.old }
+        ensures { Searched rows.now self.new }
     {
-        // Kept: by number, since the walk writes the places meanwhile, so that no place can be lent.
-        for root in 0..model.size() {
-            if let Place::Unseen = self.place[root as usize] {
-                self.explore(model, root);
-            }
+        while let Some((root, _)) = self.unmet.split_first() {
+            self.explore(rows, root);
         }
     }
 
     // Walks from `root` until the walk is over.
-    fn explore<M: Model>(&mut self, model: &M, root: u16)
-        requires resting { Resting (inner (M.Model.means model.now)) self.old }
-        requires root { (root < (inner (M.Model.means model.now)).size) × (spot self.old.place root ≡ Unseen) }
-        ensures resting { Resting (inner (M.Model.means model.now)) self.new }
-        ensures seen { (s : ℕ) → spot self.new.place s ≡ Unseen → (spot self.old.place s ≡ Unseen) × (s ≢ root) }
+    fn explore(&mut self, rows: &[Set], root: usize)
+        requires resting { Resting rows.now self.old }
+        requires root { In self.old.unmet root }
+        ensures resting { Resting rows.now self.new }
+        ensures seen { amount (length rows.now) self.new.unmet < amount (length rows.now) self.old.unmet }
     {
-        let mut top = self.enter(root);
-        loop {
-            match inner_move(model, top.state, top.next) {
-                Some(t) => self.follow(&mut top, t),
-                None => match self.leave(top) {
-                    Some(below) => top = below,
-                    None => return,
-                },
-            }
+        let mut top = self.enter(rows, root);
+        while let Some(next) = self.step(rows, top) {
+            top = next;
         }
     }
 
-    // Meets a state: the walk goes on from it.
-    fn enter(&mut self, s: u16) -> Walk
-        requires state { s < 128 }
-        requires room { RoomForOne self.old }
-        ensures { walking self.new result ≡ entered self.old s }
-    {
-        let at = self.numbers.len() as u8;
-        self.numbers.push(s).unwrap();
-        self.place[s as usize] = Place::Open(at);
-        Walk {
-            state: s,
-            at,
-            next: 0,
-            low: at,
-        }
-    }
-
-    // Looks at the next move of `top`, which goes to `t`: the walk goes on from a state that is met for the first time.
-    fn follow(&mut self, top: &mut Walk, t: u16)
-        requires state { t < 128 }
-        requires short { top.old.next < 4096 }
-        requires room { spot self.old.place t ≡ Unseen → RoomForOne self.old × (length self.old.walk.held < self.old.walk.room) }
-        ensures { walking self.new top.new ≡ followed (spot self.old.place t) self.old top.old t }
-    {
-        top.next += 1;
-        match self.place[t as usize] {
-            Place::Unseen => {
-                self.walk.push(*top).unwrap();
-                *top = self.enter(t);
-            }
-            Place::Open(at) => top.low = top.low.min(at),
-            Place::Done(_) => {}
-        }
-    }
-
-    // Leaves `top`, once all its moves are looked at, for the state that it was met from.
-    fn leave(&mut self, top: Walk) -> Option<Walk>
-        requires many { self.old.count < 128 }
-        requires within { top.at ≤ length self.old.numbers.held }
-        requires stacked { Listed (spot self.old.place) self.old.numbers.held }
-        ensures shut { top.low ≡ top.at → Shuts (lowered self.old top.low) (walked self.new result) top.at }
-        ensures passed { top.low ≢ top.at → walked self.new result ≡ lowered self.old top.low }
+    // Goes on from `top`: to a state that is not met yet, or back to one that is on the way, which makes the stretches
+    // between one, or out of `top`, which is a component then.
+    fn step(&mut self, rows: &[Set], top: Walk) -> Option<Walk>
+        requires { Going rows.now (walking self.old top) }
+        ensures next { Next rows.now (walking self.old top) (walked self.new result) }
         ensures over { result ≡ None → self.new.walk.held ≡ [] }
     {
-        if top.low == top.at {
-            self.close(top.at);
+        let ahead = top.moves.and(self.undone).minus(top.states);
+        if let Some((t, _)) = ahead.and(self.unmet).split_first() {
+            self.walk.push(top).unwrap();
+            return Some(self.enter(rows, t));
         }
-        self.walk.pop().map(|below| Walk {
-            low: below.low.min(top.low),
-            ..below
-        })
+        if ahead != Set::NONE {
+            return Some(self.join(top));
+        }
+        self.close(top);
+        self.walk.pop()
     }
 
-    // Turns what stands on the number stack from place `at` up into a component.
-    fn close(&mut self, at: u8)
-        requires many { self.old.count < 128 }
-        requires within { at ≤ length self.old.numbers.held }
-        requires stacked { Listed (spot self.old.place) self.old.numbers.held }
-        ensures { Shuts self.old self.new at }
+    // Meets a state: the way goes on with a stretch of its own.
+    fn enter(&mut self, rows: &[Set], t: usize) -> Walk
+        requires state { (t < 128) × (t < length rows.now) }
+        requires room { RoomForOne self.old }
+        ensures { Entered rows.now self.old t (walking self.new result) }
     {
-        while let Some(s) = self.numbers.pop_above(at as usize) {
-            self.place[s as usize] = Place::Done(self.count);
+        let at = self.numbers.len();
+        self.numbers.push(t as u16).unwrap();
+        let states = Set::NONE.with(t);
+        self.unmet = self.unmet.minus(states);
+        Walk {
+            states,
+            moves: rows[t],
+            at,
         }
+    }
+
+    // Makes `top` and the stretch before it one.
+    fn join(&mut self, top: Walk) -> Walk
+        requires { self.old.walk.held ≢ [] }
+        ensures { Joins self.old top (walking self.new result) }
+    {
+        let below = self.walk.pop().unwrap();
+        Walk {
+            states: below.states.or(top.states),
+            moves: below.moves.or(top.moves),
+            at: below.at,
+        }
+    }
+
+    // Makes a component of the states of `top`, which stand on the number stack from its place up.
+    fn close(&mut self, top: Walk)
+        requires many { self.old.count < 128 }
+        requires wide { length self.old.component ≡ 128 }
+        requires stacked { (own rest : List ℕ) × (self.old.numbers.held ≡ own ++ rest) × (length rest ≡ top.at) × ((s : ℕ) → In top.states s ↔ Any (λ x. x ≡ s) own) }
+        requires low { (s : ℕ) → In top.states s → s < 128 }
+        ensures { Shuts self.old top self.new }
+    {
+        while let Some(s) = self.numbers.pop_above(top.at) {
+            self.component[s as usize] = self.count;
+        }
+        self.undone = self.undone.minus(top.states);
+        self.cyclic = with_if(
+            self.cyclic,
+            self.count as usize,
+            top.moves.meets(top.states),
+        );
         self.count += 1;
     }
 }

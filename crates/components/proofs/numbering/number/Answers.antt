@@ -1,36 +1,30 @@
-use Rattle.std.proofs.Common.{◌<◌, length, ◌∙◌, arith, rules}
+use Rattle.std.proofs.Common.{◌≡◌, ◌<◌, length, get_or, set, take, Some, None, sym, ap, ◌∙◌, subst, inl, inr, ⊎_elim, arith, rules}
 use Rattle.std.proofs.lemmas.List.{length-take, get_or-take}
-use Rattle.components.proofs.Numbers.{done_at, giving_none, giving_old, giving_new, giving_same}
+use Rattle.sets.specs.Sets.{In}
+use Rattle.components.specs.Numbers.{number}
+use Rattle.components.proofs.Numbers.{giving_none, giving_old, giving_new, giving_same}
 use Rattle.components.proofs.numbering.number.Goals as goal
 use Rattle.components.proofs.numbering.number.Goals.{in-Some, in-None}
 
 pub loop-s-init : goal.loop-s-init
-loop-s-init c = (giving_none _ _, search rules)
-
-pub unreachable-requires : goal.unreachable-requires
-unreachable-requires c =
-    let l : c.loop-s.s < c.args.size = omega (arith, length-take c.args.size c.args.places.now) in
-    let d = c.requires.done c.loop-s.s l in
-    c.in_default.not-Done d.0 (get_or-take _ _ _ _ l ∙ d.1)
-
-pub bounds : goal.bounds
-bounds c = (done_at _ _ _ _ c.requires.done c.loop-s-test.true c.in-Done.is).1
-
-pub bounds-given-c-in-None : goal.bounds-given-c-in-None
-bounds-given-c-in-None c = (done_at _ _ _ _ c.requires.done c.loop-s-test.true c.in-Done.is).1
+loop-s-init c = (giving_none _ _ _, search rules)
 
 pub loop-s-preserved : goal.loop-s-preserved
 loop-s-preserved c =
     let before = c.loop-s.invariant.0 in
-    let inside : c.loop-s.s < length c.loop-s.part = omega (arith, c.loop-s.invariant.1, length-take c.args.size c.args.places.now) in
-    let at = done_at _ _ _ _ c.requires.done c.loop-s-test.true c.in-Done.is in (
+    let inside : c.loop-s.s < length c.loop-s.part = omega (arith, c.loop-s.invariant.1, length-take c.args.size c.args.component.now) in
+    let l : c.loop-s.s < c.args.size = omega (arith, length-take c.args.size c.args.component.now) in
+    let e : get_or (take c.args.size c.args.component.now) c.loop-s.s 0 ≡ number c.args.component.now c.loop-s.s = get_or-take _ _ _ _ l in (
       elim c.match-given-c.branch [
         | in-Some w ↦
-            giving_same _ _ _ w.part-is w.given-is w.count-is w.many-is
-            (giving_old _ _ _ _ _ _ _ before inside _ w.in-Some.i at.0 _ (omega arith) w.in-Some.is w.with-many.ensures)
+            giving_same _ _ _ _ w.part-is w.given-is w.found-is
+            (giving_old _ _ _ _ _ _ _ before inside w.in-Some.i (ap (λ x. get_or c.loop-s.given x None) (sym e) ∙ w.in-Some.is))
         | in-None w ↦
-            giving_same _ _ _ w.part-is w.given-is w.count-is w.many-is
-            (giving_new _ _ _ _ _ _ _ before inside _ at.0 at.1 w.in-None.is)
+            giving_same _ _ _ _ w.part-is (w.given-is ∙ ap (λ x. set c.loop-s.given x (Some c.loop-s.found.count)) e) w.found-is
+            (giving_new _ _ _ _ _ _ _ before inside (c.requires.low c.loop-s.s l) (ap (λ x. get_or c.loop-s.given x None) (sym e) ∙ w.in-None.is) _ (λ j. (
+              (λ h. ⊎_elim inl (λ q. inr (q.0, subst (In c.args.cyclic) e (w.has.ensures.0 q.2))) ((w.with_if-found.ensures j).0 h)),
+              (λ h. (w.with_if-found.ensures j).1 (⊎_elim inl (λ q. inr (q.0, omega (arith, before.few), w.has.ensures.1 (subst (In c.args.cyclic) (sym e) q.1))) h)),
+            )))
       ],
       c.match-given-c.array_long,
     )

@@ -1,8 +1,7 @@
-use Rattle.std.proofs.Common.{arith}
-use Rattle.components.proofs.Whole.{all_done}
+use Rattle.std.proofs.Common.{rules}
+use Rattle.components.proofs.Steps.{no_member}
+use Rattle.components.proofs.Whole.{over}
 use Rattle.components.proofs.search.Search.walk_all.Goals as goal
 
 pub returns : goal.returns
-returns g c =
-    let inv = c.loop-root.invariant in
-    all_done _ _ inv.0 (λ s l. inv.1 s (omega (arith, c.size-root-end.ensures)))
+returns c = over _ _ c.loop-root.invariant (no_member _ (search (rules, c.split_first.ensures, c.in_default.is)))

@@ -1,0 +1,60 @@
+//! The moves between alike states, as sets.
+ghost use Rattle.std.specs.Prelude.{ℕ, ◌<◌, ◌≤◌, length, Decides, slice_index_or};
+ghost use Rattle.kripke.specs.Words.{SameWords};
+ghost use Rattle.models.specs.Facts.{fact_words};
+ghost use Rattle.components.specs.Rows.{row_at};
+ghost use Rattle.components.specs.Alike.{silent, Told, AlikeMoves};
+
+use models::facts::Facts;
+use models::{Label, Model};
+use sets::Set;
+
+// The words of each state.
+fn words_of<M: Model>(model: &M) -> [Facts; 128]
+    requires { (M.Model.means model.now).frame.size ≤ 128 }
+    ensures { Told (M.Model.means model.now) result }
+{
+    let mut words = [Facts::NONE; 128];
+    for (s, facts) in words[..model.size() as usize].iter_mut().enumerate() {
+        *facts = model.facts(s as u16);
+    }
+    words
+}
+
+// Whether `t` is a state with these words.
+fn has_words(words: &[Facts], t: u16, own: Facts) -> bool
+    ensures { Decides result ((t < length words.now) × SameWords (fact_words (slice_index_or words.now t silent)) (fact_words own)) }
+{
+    words.get(t as usize).is_some_and(|facts| facts.same(&own))
+}
+
+// The states that `s` moves to and that are alike to it.
+fn row_of<M: Model>(model: &M, words: &[Facts; 128], s: u16) -> Set
+    requires few { (M.Model.means model.now).frame.size ≤ 128 }
+    requires state { s < (M.Model.means model.now).frame.size }
+    requires told { Told (M.Model.means model.now) words.now }
+    ensures { AlikeMoves (M.Model.means model.now) s result }
+{
+    let words = &words[..model.size() as usize];
+    let own = words[s as usize];
+    let mut row = Set::NONE;
+    for t in model.moves(s) {
+        if has_words(words, t, own) {
+            row = row.with(t as usize);
+        }
+    }
+    row
+}
+
+// For each state, the states that it moves to and that are alike to it.
+pub(crate) fn alike_rows<M: Model>(model: &M) -> [Set; 128]
+    requires { (M.Model.means model.now).frame.size ≤ 128 }
+    ensures { (s : ℕ) → s < (M.Model.means model.now).frame.size → AlikeMoves (M.Model.means model.now) s (row_at result s) }
+{
+    let words = words_of(model);
+    let mut rows = [Set::NONE; 128];
+    for (s, row) in rows[..model.size() as usize].iter_mut().enumerate() {
+        *row = row_of(model, &words, s as u16);
+    }
+    rows
+}
