@@ -21,6 +21,7 @@ use Rattle.merger.specs.declared.tables.Rounds.{Rounds}
 use Rattle.merger.specs.declared.partition.Partition.{Partition}
 use Rattle.merger.specs.Grids.{at, set_at}
 use Rattle.merger.specs.Tables.{part, class_of, words_of, Passes}
+use Rattle.components.specs.Alike.{AlikeMoves}
 use Rattle.merger.specs.Starts.{Inner, Spoken, Started}
 use Rattle.merger.specs.Analysed.{Surveyed, Tabled}
 use Rattle.merger.proofs.Moving.{part_st}
@@ -32,6 +33,27 @@ spoken_words M formed component facts count K s h p a =
     let t : ℕ = p.0 in
     let near = st_related M.frame (Alike M) (alike_equivalence M) t s (part_st M formed (at component) count K 0 t s p.1 h p.2) in
     p.3 a ∙ cond-true (ltb t M.frame.size) (M.labels.words t a) false (lt-ltb t M.frame.size p.1) ∙ near.2 a
+
+-- P has the states of one set of words together: then the moves inside its classes are those between alike states
+pub linked_alike : (M : Kripke) (rows : List Set) → Linked M.frame rows → (facts : List ℕ) →
+    ((s : ℕ) → s < M.frame.size → SameWords (words_of (at facts s)) (words_at M s)) → (P : Partition) (n : ℕ) → n ≡ M.frame.size → P.len ≡ n →
+    Numbering (λ s t. SameWords (words_of (at facts s)) (words_of (at facts t))) n (at P.class) P.classes → (alike : List Set) →
+    ((s t : ℕ) → s < P.len → In (set_at alike s) t ↔ (In (set_at rows s) t × (t < P.len) × (at P.class t ≡ at P.class s))) →
+    (s : ℕ) → s < M.frame.size → AlikeMoves M s (set_at alike s)
+linked_alike M rows L facts told P n size len numbers alike is s h t =
+    let words = λ (u : ℕ) (l : u < M.frame.size) (a : ℕ). told u l a ∙ cond-true (ltb u M.frame.size) (M.labels.words u a) false (lt-ltb u M.frame.size l) in
+    let in-row = is s t (omega arith) in (
+      (λ i.
+      let p = in-row.0 i in
+      let l : t < M.frame.size = omega (arith, p.1) in
+      let same = (numbers.same s t (omega arith) (omega arith)).0 (sym p.2) in
+      ((h, l, λ a. sym (words s h a) ∙ same a ∙ words t l a), (L.states s h t).0 p.0)),
+      (λ p. in-row.1 (
+        (L.states s h t).1 p.1,
+        omega (arith, p.0.1),
+        sym ((numbers.same s t (omega arith) (omega (arith, p.0.1))).1 (λ a. words s h a ∙ p.0.2 a ∙ sym (words t p.0.1 a))),
+      )),
+    )
 
 -- P has the states in their components, as `component` numbers them
 module _ (M : Kripke) (P : Partition) (component : List ℕ) (sized : P.len ≡ M.frame.size) (same : (s : ℕ) → s < M.frame.size → at P.class s ≡ at component s) where

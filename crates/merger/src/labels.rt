@@ -1,26 +1,52 @@
-//! The words of the components, and the components by their words.
-ghost use Rattle.std.specs.Prelude.{◌≡◌, ℕ, ◌<◌, ◌≤◌};
+//! The words of states and of components, and both by their words.
+ghost use Rattle.std.specs.Prelude.{◌≡◌, ℕ, ◌<◌, ◌≤◌, ◌↔◌};
+ghost use Rattle.sets.specs.Sets.{In};
 ghost use Rattle.kripke.specs.Words.{SameWords};
-ghost use Rattle.kripke.specs.Numbering.{Numbering};
-ghost use Rattle.merger.specs.Grids.{at};
+ghost use Rattle.kripke.specs.Models.{words_at};
+ghost use Rattle.kripke.specs.Numbering.{First, Numbering};
+ghost use Rattle.merger.specs.Grids.{at, set_at};
 ghost use Rattle.merger.specs.Tables.{words_of};
-ghost use Rattle.merger.specs.Starts.{Spoken};
 
 use crate::partition::Partition;
 use crate::tables::table;
 use models::Model;
 use sets::Set;
 
-// The words of each component as bits, from its first state.
-pub(crate) fn facts_of<M: Model>(model: &M, components: &Partition) -> [u64; 128]
-    ensures { (k : ℕ) → k < components.now.classes → Spoken (M.Model.means model.now) components.now.class result components.now.len k }
+// The words of each state as bits.
+pub(crate) fn facts_of<M: Model>(model: &M) -> [u64; 128]
+    requires { (M.Model.means model.now).frame.size ≤ 128 }
+    ensures { (s : ℕ) → s < (M.Model.means model.now).frame.size → SameWords (words_of (at result s)) (words_at (M.Model.means model.now) s) }
 {
-    table(0, Set::below(components.classes()), |k| {
-        model.facts(components.first(k) as u16).bits
-    })
+    table(
+        0,
+        Set::below(model.size() as usize),
+        |s| model.facts(s as u16).bits,
+    )
 }
 
-// The components by their words, numbered by first component.
+// Of each component: the words of its first state.
+pub(crate) fn first_facts(facts: &[u64; 128], components: &Partition) -> [u64; 128]
+    ensures { (k : ℕ) → k < components.now.classes → (s : ℕ) × First components.now.len (at components.now.class) k s × (at result k ≡ at facts.now s) }
+{
+    table(
+        0,
+        Set::below(components.classes()),
+        |k| facts[components.first(k)],
+    )
+}
+
+// Of each state: those that it moves to and that are of its class.
+pub(crate) fn alike_rows(rows: &[Set; 128], labels: &Partition) -> [Set; 128]
+    ensures { (s t : ℕ) → s < labels.now.len → In (set_at result s) t ↔ (In (set_at rows.now s) t × (t < labels.now.len) × (at labels.now.class t ≡ at labels.now.class s)) }
+{
+    table(
+        Set::NONE,
+        Set::below(labels.len()),
+        |s| rows[s].and(labels.group_of(s)),
+    )
+}
+
+// States or components by their words, numbered by the first of each.
 // Kept: a table and a count; the type of a slice has no bound of 128, so the `requires` would stay.
 pub(crate) fn label_classes(facts: &[u64; 128], count: usize) -> Partition
     requires { count ≤ 128 }

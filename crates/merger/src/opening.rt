@@ -8,10 +8,10 @@ ghost use Rattle.merger.specs.Starts.{Started};
 
 use crate::between::moves_between;
 use crate::closure::close;
-use crate::labels::{facts_of, label_classes};
+use crate::labels::{alike_rows, facts_of, first_facts, label_classes};
 use crate::partition::Partition;
 use crate::tables::{Found, Rounds};
-use components::{Walk, find_components};
+use components::{Walk, find_in_rows};
 use models::Model;
 use sets::Set;
 
@@ -29,13 +29,15 @@ pub(crate) fn look_over<M: Model>(
     requires rooms { ((M.Model.means model.now).frame.size ≤ length walks.old) × ((M.Model.means model.now).frame.size ≤ length states.old) }
     ensures { Surveyed (M.Model.means model.now) found.new }
 {
-    let size = model.size();
-    let parts = find_components(model, walks, states, &mut found.component).unwrap();
-    let components = Partition::numbered(&found.component, size as usize);
-    found.states = size;
+    let size = model.size() as usize;
+    let facts = facts_of(model);
+    let alike = alike_rows(rows, &label_classes(&facts, size));
+    let parts = find_in_rows(&alike[..size], walks, states, &mut found.component).unwrap();
+    let components = Partition::numbered(&found.component, size);
+    found.states = model.size();
     found.words = model.words();
     found.components = parts.count as usize;
-    found.facts = facts_of(model, &components);
+    found.facts = first_facts(&facts, &components);
     found.moves = moves_between(rows, &components);
 }
 

@@ -1,11 +1,5 @@
-use Rattle.std.proofs.Common.{arith, rules}
-use Rattle.merger.specs.declared.partition.Partition.{Partition}
+use Rattle.std.proofs.Common.{◌<◌, arith, rules}
 use Rattle.merger.proofs.labels.facts_of.Goals as goal
 
 pub returns : goal.returns
-returns g c k h =
-    let P : Partition = c.args.components.now in
-    let most = P.most in
-    let few = P.few in
-    let count = c.classes.ensures in
-    search (rules, c.table.ensures.made k 0 ((c.below.ensures k).1 (omega arith, omega arith)))
+returns g c s h = search (rules, c.table.ensures.made s 0 ((c.below.ensures s).1 (omega (arith, h, c.size.ensures), omega (arith, h, c.requires))))

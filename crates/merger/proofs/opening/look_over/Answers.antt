@@ -1,20 +1,28 @@
-use Rattle.std.proofs.Common.{◌≡◌, ℕ, ◌<◌, sym, ◌∙◌, subst, arith}
+use Rattle.std.proofs.Common.{◌≡◌, ℕ, ◌<◌, ap, sym, ◌∙◌, subst, arith, rules}
 use Rattle.kripke.specs.Numbering.{Ranked}
 use Rattle.kripke.proofs.Ranking.{ranked_count}
+use Rattle.components.proofs.Finding.{answers_front}
 use Rattle.merger.specs.declared.partition.Partition.{Partition}
 use Rattle.merger.specs.Grids.{at}
-use Rattle.merger.proofs.Starting.{spoken_words, spoken_there, linked_passes}
+use Rattle.merger.specs.Tables.{words_of}
+use Rattle.merger.proofs.Starting.{spoken_words, spoken_there, linked_passes, linked_alike}
 use Rattle.merger.proofs.opening.look_over.Goals as goal
 
 pub returns : goal.returns
 returns g c =
     let M = g.M.Model.means c.args.model.now in
-    let found = rw c.unwrap-parts.ensures at c.find_components.ensures in
+    let e = c.size-size.ensures in
+    let labels = c.label_classes.ensures in
+    let told = c.facts_of-facts.ensures in
+    let alike = linked_alike M c.args.rows.now c.requires.linked c.facts_of-facts.result told c.label_classes.result c.size-size.result e labels.len labels.numbers
+        c.alike_rows-alike.result c.alike_rows-alike.ensures in
+    let few = c.requires.admitted.0.1 in
+    let answer = answers_front M c.alike_rows-alike.result c.size-size.result e (omega (arith, few, e)) (search rules) alike _ _ _ _ _ _ c.find_in_rows.result c.find_in_rows.ensures in
+    let found = rw c.unwrap-parts.ensures at answer in
     let K = found.1.components in
-    let component = c.find_components.new.part in
+    let component = c.find_in_rows.new.part in
     let count = c.unwrap-parts.result.count in
     let P : Partition = c.numbered-components.result in
-    let e = c.size-size.ensures in
     let n = c.numbered-components.ensures in
     let sized : P.len ≡ M.frame.size = n.len ∙ e in
     let same : (s : ℕ) → s < M.frame.size → at P.class s ≡ at component s = λ s h. n.same s (omega arith) in
@@ -24,12 +32,13 @@ returns g c =
     record {
       formed = g.M.Model.formed c.args.model.now;
       admitted = c.requires.admitted;
-      states = e;
+      states = c.size-found.ensures;
       words = c.words-found.ensures;
       facts = λ s h.
           let low = P.low s (omega arith) in
-          spoken_words M (g.M.Model.formed c.args.model.now) component c.facts_of-found.result count K s h
-          (spoken_there M P component sized same c.facts_of-found.result s h (c.facts_of-found.ensures (at P.class s) low));
+          let first = c.first_facts-found.ensures (at P.class s) low in
+          spoken_words M (g.M.Model.formed c.args.model.now) component c.first_facts-found.result count K s h
+          (spoken_there M P component sized same c.first_facts-found.result s h (first.0, first.1.state, first.1.has, λ a. ap (λ x. words_of x a) first.2 ∙ told first.0 (omega (arith, first.1.state, sized)) a));
       components = K;
       moves = λ k l h.
           let m = c.moves_between-found.ensures k l (omega arith) in
