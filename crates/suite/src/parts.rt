@@ -1,7 +1,8 @@
 //! The component search on small models, on the largest, and where it is refused.
-use components::{Refused, Walk, find_components};
+use components::{Refused, Walk, find_components, find_in_rows};
 use models::facts::Facts;
 use models::listed::Listed;
+use sets::Set;
 use std::alloc::Global;
 use std::process::Abort;
 use std::test::Fail;
@@ -70,6 +71,21 @@ fn components_of_four_states(rt: HostRuntime) -> Result<(), Fail> {
         let count = parts.into_iter().max().map(|most| most + 1);
         assert_eq!(rt; Some(found.count), count);
     }
+    Ok(())
+}
+
+// Two cycles, one within reach of the other, and a state that moves only to a number that has no row.
+#[test]
+fn components_of_rows(rt: HostRuntime) -> Result<(), Fail> {
+    let to = |first: usize, second: usize| Set::NONE.with(first).with(second);
+    let rows = [to(3, 3), to(2, 3), to(1, 1), to(0, 0), to(5, 127)];
+    let mut part = [200; 128];
+    let found = find_in_rows(&rows, &mut [Walk::BLANK; 5], &mut [0; 5], &mut part)?;
+    assert_eq!(rt; &part[..6], &[0, 1, 1, 0, 2, 200]);
+    assert_eq!(rt; found.count, 3);
+    assert!(rt; found.cyclic.has(0) && found.cyclic.has(1) && !found.cyclic.has(2));
+    let short = find_in_rows(&rows, &mut [Walk::BLANK; 4], &mut [0; 5], &mut part);
+    assert!(rt; matches!(short, Err(Refused::ShortScratch)));
     Ok(())
 }
 
