@@ -1,5 +1,6 @@
 -- The newest stretch of the way moves nowhere but into itself and into components: it is a component.
 use Rattle.std.proofs.Common.{◌≡◌, ℕ, ◌<◌, ◌++◌, ◌⊎◌, ◌↔◌, List, length, sym, ap, ◌∙◌, subst, inl, inr, ⊎_elim, arith}
+use Rattle.std.proofs.lemmas.Bool.{cases_lt}
 use Rattle.std.proofs.lemmas.List.{length-append}
 use Rattle.sets.specs.declared.Set.{Set}
 use Rattle.sets.specs.Sets.{In}
@@ -125,6 +126,17 @@ module _ (rows : List Set) (S : Search) (w : Walk) (S' : Search) (X : Shuts S w 
     same = same';
     apart = apart';
     below = λ s d. ⊎_elim (λ a. omega (arith, G.below s a, kept s a)) (λ a. omega (arith, X.closed s a)) (was s d);
+    used = λ d l. ⊎_elim
+        (λ lt. let u = G.used d lt in (u.0, old u.0 u.1, kept u.0 u.1 ∙ u.2))
+        (λ ge. let e : S.count ≡ d = omega arith in (G.way.0.some.0, new _ G.way.0.some.1, X.closed _ G.way.0.some.1 ∙ e))
+        (cases_lt d S.count);
+    later = λ s t d e. ⊎_elim
+        (λ a. omega (arith, G.later s t a e, kept s a, kept t (on-done s t e a)))
+        (λ a. ⊎_elim
+        (λ b. omega (arith, X.closed s a, X.closed t b))
+        (λ b. omega (arith, X.closed s a, kept t b, G.below t b))
+        (out s t a e))
+        (was s d);
     cyclic = cyclic';
     few = G.few;
     wide = X.wide ∙ G.wide;

@@ -53,6 +53,8 @@ module _ (rows : List Set) (S : Search) (t : ℕ) (G : Going rows S) (new : In S
       same = G.same;
       apart = G.apart;
       below = G.below;
+      used = G.used;
+      later = G.later;
       cyclic = G.cyclic;
       few = G.few;
       wide = G.wide;

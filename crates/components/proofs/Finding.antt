@@ -1,5 +1,5 @@
 -- What the search has found of rows, and that they are the components of a model where the rows are its moves between alike states.
-use Rattle.std.proofs.Common.{◌≡◌, ℕ, zero, suc, ◌<◌, ◌≤◌, true, ◌↔◌, List, length, take, Ok, Err, Result, sym, refl, ◌∙◌, subst, arith}
+use Rattle.std.proofs.Common.{◌≡◌, ℕ, zero, suc, ◌<◌, ◌≤◌, true, ◌↔◌, List, length, take, Ok, Err, Result, sym, refl, ap, ◌∙◌, subst, arith}
 use Rattle.sets.specs.declared.Set.{Set}
 use Rattle.sets.specs.Sets.{none}
 use Rattle.std.proofs.lemmas.List.{length-take-le, get_or-take}
@@ -9,6 +9,7 @@ use Rattle.kripke.specs.Numbering.{Numbering}
 use Rattle.kripke.specs.Paths.{Move, Trail}
 use Rattle.kripke.specs.Relation.{ST}
 use Rattle.kripke.specs.Components.{Components, Cyclic, numbered}
+use Rattle.kripke.proofs.Counting.{pigeons, chosen}
 use Rattle.kripke.proofs.Paths.{trail_first}
 use Rattle.kripke.proofs.Rounds.{st_own, st_more, st_join, alike_equivalence}
 use Rattle.kripke.proofs.Components.{Mutual, mutual_components, numbered-part, part-numbered, cyclic_move}
@@ -17,11 +18,46 @@ use Rattle.components.specs.Rows.{row_at, Edge, Both}
 use Rattle.components.specs.Alike.{AlikeMoves}
 use Rattle.components.specs.Search.{Searched}
 use Rattle.components.specs.Numbers.{number, Numbered}
-use Rattle.components.specs.Found.{Refuses, Room, Finds, FindsIn, Answers, AnswersIn}
+use Rattle.components.specs.Found.{Refuses, Room, Ordered, Finds, FindsIn, Answers, AnswersIn}
 use Rattle.components.specs.declared.Found.{Found}
 use Rattle.components.specs.declared.Refused.{Refused}
 use Rattle.components.specs.declared.marks.Walk.{Walk}
 use Rattle.components.specs.declared.search.Search.{Search}
+
+-- the numbers by first member in the order in which the components were closed
+module _ (rows : List Set) (S : Search) (D : Searched rows S) (part part' : List ℕ) (found : Found)
+    (N : Numbered S.component S.cyclic (length rows) part part' found) where
+  -- two states whose components stand at one place are of one component
+  same-place : (s t : ℕ) → s < length rows → t < length rows → number part' s ≡ number part' t → number S.component s ≡ number S.component t
+  same-place s t ls lt e = (N.numbering.same s t ls lt).0 e
+
+  -- there are as many numbers by first member as by closing
+  as-many : S.count ≡ found.count
+  as-many =
+      let of : (f : ℕ → ℕ) × ((d : ℕ) → d < S.count → (f d < length rows) × (number S.component (f d) ≡ d)) =
+      chosen S.count (λ d s. (s < length rows) × (number S.component s ≡ d)) (λ d l. let u = D.used d l in (u.0, (u.1, u.2))) in
+      let to : (f : ℕ → ℕ) × ((i : ℕ) → i < found.count → (f i < length rows) × (number part' (f i) ≡ i)) =
+      chosen found.count (λ i s. (s < length rows) × (number part' s ≡ i)) (λ i l. let u = N.numbering.ranked.member i l in (u.0, (u.1, u.2))) in
+      let a = pigeons found.count S.count (λ d. number part' (of.0 d)) (λ d l. N.numbering.ranked.below (of.0 d) (of.1 d l).0)
+      (λ d e l m q. sym (of.1 d l).1 ∙ same-place (of.0 d) (of.0 e) (of.1 d l).0 (of.1 e m).0 q ∙ (of.1 e m).1) in
+      let b = pigeons S.count found.count (λ i. number S.component (to.0 i)) (λ i l. D.below (to.0 i) (to.1 i l).0)
+      (λ i j l m q. sym (to.1 i l).1 ∙ (N.numbering.same (to.0 i) (to.0 j) (to.1 i l).0 (to.1 j m).0).1 q ∙ (to.1 j m).1) in
+      omega arith
+
+  -- the place of a state's component is the number by closing
+  place : (c s : ℕ) → c < found.count → s < length rows → number found.order c ≡ number part' s → number S.component s ≡ c
+  place c s l ls e =
+      let u = D.used c (omega (arith, as-many)) in
+      same-place s u.0 ls u.1 (sym e ∙ sym (ap (number found.order) u.2) ∙ N.order u.0 u.1) ∙ u.2
+
+  ordered : Ordered rows part' found.count found.order
+  ordered = record {
+    low = λ c l.
+        let u = D.used c (omega (arith, as-many)) in
+        subst (λ x. x < found.count) (sym (N.order u.0 u.1) ∙ ap (number found.order) u.2) (N.numbering.ranked.below u.0 u.1);
+    each = λ s l. (number S.component s, omega (arith, as-many, D.below s l), N.order s l);
+    later = λ s t c d e lc ld a b. omega (arith, D.later s t e, place c s lc e.0 a, place d t ld e.1 b);
+  }
 
 -- numbers by first member for what was searched
 pub finds_in : (rows : List Set) (S : Search) → Searched rows S → (part part' : List ℕ) (found : Found) →
@@ -45,6 +81,7 @@ finds_in rows S D part part' found N = record {
         (N.cyclic i).1 (p.0, p.2.0, p.3, (D.cyclic (number S.component p.0)).1 (p.0, p.1, p.2, refl, same))),
   );
   rest = N.rest;
+  order = ordered rows S D part part' found N;
 }
 
 -- the rows are those of the states of M, each with its moves to alike states

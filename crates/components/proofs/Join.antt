@@ -83,6 +83,8 @@ module _ (rows : List Set) (S : Search) (w : Walk) (S' : Search) (X : Joins S w 
         same = H.same;
         apart = H.apart;
         below = H.below;
+        used = H.used;
+        later = H.later;
         cyclic = H.cyclic;
         few = H.few;
         wide = H.wide;

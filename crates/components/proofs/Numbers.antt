@@ -16,6 +16,7 @@ pub record Giving (component : List ℕ) (turning : Set) (s : ℕ) (part₀ part
   pub has : (t : ℕ) → t < s → get_or given (number component t) None ≡ Some (number part t)
   pub few : found.count ≤ s
   pub room : length given ≡ 128
+  pub wide : length found.order ≡ 128
 
 none_some : {o : Option ℕ} {i : ℕ} → o ≡ None → o ≡ Some i → ⊥
 none_some p q = let z : ◌≡◌ {A = ℕ} 0 1 = cc in omega arith
@@ -27,17 +28,19 @@ some_same e = cc
 same_everywhere : {X : Type 0} (n : ℕ) (x : X) (i : ℕ) → get_or (replicate n x) i x ≡ x
 same_everywhere n x i = ⊎_elim (get_or-replicate n i x x) (λ past. get_or_past (replicate n x) i x (omega (arith, length-replicate n x))) (cases_lt i n)
 
-pub giving_none : (component part : List ℕ) (turning : Set) → Giving component turning 0 part part (replicate 128 None) (record { count = 0; cyclic = none })
+pub giving_none : (component part : List ℕ) (turning : Set) → Giving component turning 0 part part (replicate 128 None) (record { count = 0; cyclic = none; order = replicate 128 0 })
 giving_none component part turning = record {
   numbered = record {
     numbering = number-none (λ s t. number component s ≡ number component t) (number part);
     rest = λ s l. refl;
     cyclic = λ i. ((λ h. absurd (none_in i h)), (λ p. absurd (omega (arith, p.1))));
+    order = λ s l. absurd (omega arith);
   };
   of = λ c i e. absurd (none_some (same_everywhere 128 None c) e);
   has = λ t l. absurd (omega arith);
   few = omega arith;
   room = refl;
+  wide = refl;
 }
 
 module _ (component : List ℕ) (turning : Set) (s : ℕ) (part₀ part : List ℕ) (given : List (Option ℕ)) (found : Found)
@@ -89,6 +92,10 @@ module _ (component : List ℕ) (turning : Set) (s : ℕ) (part₀ part : List �
             (λ h. earlier i j ((before.numbered.cyclic j).0 h)),
             (λ p. (before.numbered.cyclic j).1 (⊎_elim (λ o. o) (λ n. (t.0, t.1, t.3 ∙ sym n.0, subst (In turning) (sym t.2) n.1)) (parted i j p))),
           );
+          order = λ u l. ⊎_elim
+              (λ same. ap (λ x. number found.order (number component x)) same ∙ ap (number found.order) (sym t.2) ∙ before.numbered.order t.0 t.1 ∙ t.3 ∙ sym (here i) ∙ ap (number (part' i)) (sym same))
+              (λ ne. let b : u < s = omega arith in before.numbered.order u b ∙ sym (kept-below i u b))
+              (cases_eq u s);
         };
         of = λ d k q. let u = before.of d k q in (u.0, omega (arith, u.1), u.2, kept-below i u.0 u.1 ∙ u.3);
         has = λ u l. ⊎_elim
@@ -97,12 +104,13 @@ module _ (component : List ℕ) (turning : Set) (s : ℕ) (part₀ part : List �
             (cases_eq u s);
         few = omega (arith, before.few);
         room = before.room;
+        wide = before.wide;
       }
 
   -- s is the first member of its component
   pub giving_new : number component s < 128 → get_or given (number component s) None ≡ None → (cyclic' : Set) →
       ((j : ℕ) → In cyclic' j ↔ (In found.cyclic j ⊎ ((j ≡ found.count) × In turning (number component s)))) →
-      Giving component turning (s + 1) part₀ (set part s found.count) (set given (number component s) (Some found.count)) (record { count = found.count + 1; cyclic = cyclic' })
+      Giving component turning (s + 1) part₀ (set part s found.count) (set given (number component s) (Some found.count)) (record { count = found.count + 1; cyclic = cyclic'; order = set found.order (number component s) found.count })
   unfolding Turning
   giving_new small e cyclic' more =
       let c : ℕ = number component s in
@@ -119,6 +127,13 @@ module _ (component : List ℕ) (turning : Set) (s : ℕ) (part₀ part : List �
             (λ h. ⊎_elim (λ o. earlier n j ((before.numbered.cyclic j).0 o)) (λ q. (s, omega arith, here n ∙ sym q.0, q.1)) ((more j).0 h)),
             (λ p. (more j).1 (⊎_elim (λ o. inl ((before.numbered.cyclic j).1 o)) inr (parted n j p))),
           );
+          order = λ u l. ⊎_elim
+              (λ same. ap (λ x. number (set found.order c n) (number component x)) same ∙ get_or-set_same found.order c n 0 (omega (arith, before.wide)) ∙ sym (here n) ∙ ap (number (part' n)) (sym same))
+              (λ ne.
+              let b : u < s = omega arith in
+              get_or-set_other found.order c (number component u) n 0 (λ f. none_some e (ap (λ x. get_or given x None) (sym f) ∙ before.has u b))
+              ∙ before.numbered.order u b ∙ sym (kept-below n u b))
+              (cases_eq u s);
         };
         of = λ d k q. ⊎_elim
             (λ f. (s, omega arith, sym f, here n ∙ some_same (sym same' ∙ ap (λ x. get_or given' x None) (sym f) ∙ q)))
@@ -133,6 +148,7 @@ module _ (component : List ℕ) (turning : Set) (s : ℕ) (part₀ part : List �
             (cases_eq u s);
         few = omega (arith, before.few);
         room = length-set given c (Some n) ∙ before.room;
+        wide = length-set found.order c n ∙ before.wide;
       }
 
 -- the same of what is equal

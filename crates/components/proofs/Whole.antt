@@ -17,6 +17,8 @@ module _ (rows : List Set) (S : Search) (R : Resting rows S) (met : (s : ℕ) �
   pub over : Searched rows S
   over = record {
     below = λ s l. G.below s (done s l);
+    used = λ d l. let u = G.used d l in (u.0, u.1.0, u.2);
+    later = λ s t e. G.later s t (done s e.0) e;
     few = omega (arith, G.numbers.0);
     same = λ s t ls lt. (
       (λ e. (G.same s t (done s ls) (done t lt) e, G.same t s (done t lt) (done s ls) (sym e))),
@@ -46,6 +48,8 @@ start rows S n long few numbers walks below same =
         same = λ s t d. absurd (d.1 (all s d.0));
         apart = λ s t d. absurd (d.1 (all s d.0));
         below = λ s d. absurd (d.1 (all s d.0));
+        used = λ d l. absurd (omega arith);
+        later = λ s t d. absurd (d.1 (all s d.0));
         cyclic = λ d. ((λ h. absurd (none_in d h)), (λ p. absurd (p.2.1 (all p.0 p.2.0))));
         few = omega arith;
         wide = refl;

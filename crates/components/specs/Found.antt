@@ -25,6 +25,12 @@ Refuses ShortScratch n walks states = (n ≤ most) × ((walks < n) ⊎ (states <
 abbrev pub Room : (n walks states : ℕ) → Type 0
 Room n walks states = (n ≤ most) × (n ≤ walks) × (n ≤ states)
 
+-- order has the numbers of the components, each once, and each behind those that it moves to
+pub record Ordered (rows : List Set) (part : List ℕ) (count : ℕ) (order : List ℕ) : Type 0 where
+  pub low : (c : ℕ) → c < count → number order c < count
+  pub each : (s : ℕ) → s < length rows → (c : ℕ) × (c < count) × (number order c ≡ number part s)
+  pub later : (s t c d : ℕ) → Edge rows s t → c < count → d < count → number order c ≡ number part s → number order d ≡ number part t → d ≤ c
+
 -- part' is part with the components of M at its front, numbered by first member; found has their number, and which of them hold a cycle
 pub record Finds (M : Kripke) (part part' : List ℕ) (found : Found) : Type 0 where
   pub components : Components M.frame (Alike M) (number part') found.count
@@ -37,6 +43,7 @@ pub record FindsIn (rows : List Set) (part part' : List ℕ) (found : Found) : T
   pub numbering : Numbering (Both rows) (length rows) (number part') found.count
   pub cyclic : (i : ℕ) → In found.cyclic i ↔ ((s t : ℕ) × Edge rows s t × (number part' s ≡ i) × (number part' t ≡ i))
   pub rest : (s : ℕ) → length rows ≤ s → number part' s ≡ number part s
+  pub order : Ordered rows part' found.count found.order
 
 -- the answer of a search of n states that finds what F says: a refused search alters nothing; an accepted one has room,
 -- and what it leaves in the memory lent for the walk is free

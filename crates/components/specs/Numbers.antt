@@ -10,8 +10,9 @@ abbrev pub number : List ℕ → ℕ → ℕ
 number part s = slice_index part s
 
 -- part' numbers the components of the first n states, and is part from there on; found has how many there are,
--- and those of them that turning has by the other numbers
+-- those of them that turning has by the other numbers, and all of them in the order of the other numbers
 pub record Numbered (component : List ℕ) (turning : Set) (n : ℕ) (part part' : List ℕ) (found : Found) : Type 0 where
   pub numbering : Numbering (λ s t. number component s ≡ number component t) n (number part') found.count
   pub rest : (s : ℕ) → n ≤ s → number part' s ≡ number part s
   pub cyclic : (i : ℕ) → In found.cyclic i ↔ ((s : ℕ) × (s < n) × (number part' s ≡ i) × In turning (number component s))
+  pub order : (s : ℕ) → s < n → number found.order (number component s) ≡ number part' s

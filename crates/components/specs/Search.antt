@@ -65,6 +65,8 @@ pub record Going (rows : List Set) (S : Search) : Type 0 where
   pub same : (s t : ℕ) → Done rows S s → Done rows S t → number S.component s ≡ number S.component t → Leads (Edge rows) s t
   pub apart : (s t : ℕ) → Done rows S s → Done rows S t → Leads (Edge rows) s t → Leads (Edge rows) t s → number S.component s ≡ number S.component t
   pub below : (s : ℕ) → Done rows S s → number S.component s < S.count
+  pub used : (d : ℕ) → d < S.count → (s : ℕ) × Done rows S s × (number S.component s ≡ d)
+  pub later : (s t : ℕ) → Done rows S s → Edge rows s t → number S.component t ≤ number S.component s
   pub cyclic : (d : ℕ) → In S.cyclic d ↔ Turns rows S d
   pub few : length rows ≤ 128
   pub wide : length S.component ≡ 128
@@ -135,9 +137,12 @@ pub record Next (rows : List Set) (S S' : Search) : Type 0 where
   pub falls : left rows S' < left rows S
   pub seen : amount (length rows) S'.unmet ≤ amount (length rows) S.unmet
 
--- the search is over: each state has a number below count, and two states have the same exactly where moves lead both ways
+-- the search is over: each state has a number below count, and each such number is some state's; two states have the same
+-- exactly where moves lead both ways, and no move leads to a higher one
 pub record Searched (rows : List Set) (S : Search) : Type 0 where
   pub below : (s : ℕ) → s < length rows → number S.component s < S.count
+  pub used : (d : ℕ) → d < S.count → (s : ℕ) × (s < length rows) × (number S.component s ≡ d)
+  pub later : (s t : ℕ) → Edge rows s t → number S.component t ≤ number S.component s
   pub few : S.count ≤ length rows
   pub same : (s t : ℕ) → s < length rows → t < length rows → number S.component s ≡ number S.component t ↔ (Leads (Edge rows) s t × Leads (Edge rows) t s)
   pub cyclic : (d : ℕ) → In S.cyclic d ↔ ((s t : ℕ) × Edge rows s t × (number S.component s ≡ d) × (number S.component t ≡ d))

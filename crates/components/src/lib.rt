@@ -33,6 +33,8 @@ pub struct Found {
     pub count: u8,
     /// Those that hold a cycle: they have more than one member, or one that moves to itself.
     pub cyclic: Set,
+    /// Their numbers, each behind those of the components that it moves to.
+    pub order: Parts,
 }
 
 /// Why a search is refused.

@@ -25,6 +25,7 @@ pub(crate) fn number(component: &Parts, cyclic: Set, size: usize, part: &mut Par
     let mut found = Found {
         count: 0,
         cyclic: Set::NONE,
+        order: [0; 128],
     };
     // Kept: `part` is written by number; of what is written under `iter_mut().zip(component)` the check knows nothing.
     for (s, &c) in component[..size].iter().enumerate() {
@@ -32,6 +33,7 @@ pub(crate) fn number(component: &Parts, cyclic: Set, size: usize, part: &mut Par
             Some(i) => part[s] = i,
             None => {
                 part[s] = found.count;
+                found.order[c as usize] = found.count;
                 given[c as usize] = Some(found.count);
                 found.cyclic = with_if(found.cyclic, found.count as usize, cyclic.has(c as usize));
                 found.count += 1;

@@ -81,7 +81,7 @@ fn components_of_rows(rt: HostRuntime) -> Result<(), Fail> {
     let rows = [to(3, 3), to(2, 3), to(1, 1), to(0, 0), to(5, 127)];
     let mut part = [200; 128];
     let found = find_in_rows(&rows, &mut [Walk::BLANK; 5], &mut [0; 5], &mut part)?;
-    assert_eq!(rt; &part[..6], &[0, 1, 1, 0, 2, 200]);
+    assert_eq!(rt; part[..6], [0, 1, 1, 0, 2, 200][..]);
     assert_eq!(rt; found.count, 3);
     assert!(rt; found.cyclic.has(0) && found.cyclic.has(1) && !found.cyclic.has(2));
     let short = find_in_rows(&rows, &mut [Walk::BLANK; 4], &mut [0; 5], &mut part);
