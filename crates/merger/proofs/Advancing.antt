@@ -69,11 +69,9 @@ module _ (F : Found) (S : Rounds) (B : Bounded F S) (wanted : Set)
       (cases_eq j k)
 
   -- what is cut from the reach are the pairs that were parted
-  pub cut_parted : (reach' : Reach) (P' : Partition) → Narrowed S.reach reach' P P' →
+  pub cut_parted : (reach' : Reach) (P' : Partition) → P'.len ≡ P.len → Narrowed S.reach reach' P' →
       (k l : ℕ) → k < F.components → l < F.components → On reach' k l ↔ (On S.reach k l × (at P'.class k ≡ at P'.class l))
-  cut_parted reach' P' N k l h b =
+  cut_parted reach' P' len N k l h b =
       let same = B.items in
-      let n = N k l (omega arith) in (
-        (λ o. let p = n.0 o in (p.0, sym (p.1 (omega arith) (sym (B.near k l h b p.0))))),
-        (λ p. n.1 (p.0, λ _ _. sym p.1)),
-      )
+      let n = N k l (omega arith) (omega arith) in
+      ((λ o. let p = n.0 o in (p.0, sym p.1)), (λ p. n.1 (p.0, sym p.1)))

@@ -1,5 +1,5 @@
 -- What is in the sets of the components that a row marks, gathered along the row; and marks cleared.
-use Rattle.std.proofs.Common.{◌≡◌, ℕ, zero, suc, ◌+◌, ◌-◌, ◌*◌, ◌<◌, ◌≤◌, min, ◌⊎◌, ◌↔◌, Option, Some, List, [], ◌∷◌, ◌++◌, length, get_or, take, drop, set, Iter, Bor, sym, ap, ◌∙◌, subst, inl, inr, ⊎_elim, arith}
+use Rattle.std.proofs.Common.{◌≡◌, ℕ, zero, suc, ◌+◌, ◌-◌, ◌*◌, ◌<◌, ◌≤◌, min, ◌⊎◌, ◌↔◌, Option, Some, List, [], ◌∷◌, ◌++◌, length, get_or, take, drop, set, Iter, Bor, sym, refl, ap, ◌∙◌, subst, inl, inr, ⊎_elim, arith}
 use Rattle.std.proofs.lemmas.Bool.{cases_eq, cases_lt}
 use Rattle.std.proofs.lemmas.List.{get_or-take, get_or-drop, get_or-set_other, length-take, length-append}
 use Rattle.std.proofs.lemmas.List.Edits.{get_or-between}
@@ -12,7 +12,7 @@ use Rattle.std.specs.Iterator.Adapters.{zip_first, zip_second}
 use Rattle.std.specs.Slice.Iter.{iter_rest}
 use Rattle.std.specs.Simd.{first_chunks}
 use Rattle.sets.specs.declared.Set.{Set}
-use Rattle.sets.specs.Sets.{In}
+use Rattle.sets.specs.Sets.{In, Splits}
 use Rattle.merger.specs.Grids.{at, set_at}
 use Rattle.merger.proofs.Blank.{after_set}
 
@@ -109,22 +109,41 @@ module _ (row : List ℕ) (sets : List Set) (count : ℕ) where
         (cases_lt p.0 n))),
   )
 
--- the marks of what is in gone and no more in left are cleared
-abbrev pub Cleared : List ℕ → List ℕ → Set → Set → Type 0
-Cleared row row' gone left = (l : ℕ) → (at row' l ≡ 1) ↔ ((at row l ≡ 1) × (In gone l → In left l))
+-- the marks below n that Stays lets be are left, and those from n up are as they were
+pub record Sifted (row row' : List ℕ) (Stays : ℕ → Type 0) (n : ℕ) : Type 0 where
+  pub done : (j : ℕ) → j < n → (at row' j ≡ 1) ↔ ((at row j ≡ 1) × Stays j)
+  pub rest : (j : ℕ) → n ≤ j → at row' j ≡ at row j
 
--- the rows below n have the marks of before that Stays lets be, and the others are as they were
-pub record Cut (rows rows' : List (List ℕ)) (Stays : ℕ → ℕ → Type 0) (n : ℕ) : Type 0 where
-  pub done : (k l : ℕ) → k < n → (at (get_or rows' k []) l ≡ 1) ↔ ((at (get_or rows k []) l ≡ 1) × Stays k l)
-  pub rest : (k : ℕ) → n ≤ k → get_or rows' k [] ≡ get_or rows k []
+pub sifted_more : (row row' : List ℕ) (Stays : ℕ → Type 0) (n x : ℕ) → n < length row' → Sifted row row' Stays n →
+    ((x ≡ 1) ↔ ((at row' n ≡ 1) × Stays n)) → Sifted row (set row' n x) Stays (n + 1)
+sifted_more row row' Stays n x room S kept = record {
+  done = λ j h. after_set 0 row' n x room (λ j y. j < n + 1 → (y ≡ 1) ↔ ((at row j ≡ 1) × Stays j))
+      (λ _. subst (λ y. (x ≡ 1) ↔ ((y ≡ 1) × Stays n)) (S.rest n (omega arith)) kept)
+      (λ j other h. S.done j (omega arith))
+      j h;
+  rest = λ j h. get_or-set_other row' n j x 0 (omega arith) ∙ S.rest j (omega arith);
+}
 
-module _ (rows : List (List ℕ)) (Stays : ℕ → ℕ → Type 0) where
-  pub cut_more : (rows' : List (List ℕ)) (n : ℕ) (row : List ℕ) → n < length rows' → Cut rows rows' Stays n →
-      ((l : ℕ) → (at row l ≡ 1) ↔ ((at (get_or rows' n []) l ≡ 1) × Stays n l)) → Cut rows (set rows' n row) Stays (n + 1)
-  cut_more rows' n row room C kept = record {
-    done = λ k l h. after_set [] rows' n row room (λ k r. k < n + 1 → (at r l ≡ 1) ↔ ((at (get_or rows k []) l ≡ 1) × Stays k l))
-        (λ _. subst (λ r. (at row l ≡ 1) ↔ ((at r l ≡ 1) × Stays n l)) (C.rest n (omega arith)) (kept l))
-        (λ k other h. C.done k l (omega arith))
-        k h;
-    rest = λ k h. get_or-set_other rows' n k row [] (omega arith) ∙ C.rest k (omega arith);
+-- the rows of places that are no more in left have the marks below n that Stays lets be, and the others are as they were
+pub record Cut (rows rows' : List (List ℕ)) (Stays : ℕ → ℕ → Type 0) (n : ℕ) (places left : Set) : Type 0 where
+  pub inside : (k : ℕ) → In left k → In places k
+  pub done : (k l : ℕ) → In places k → (In left k → ⊥) → l < n → (at (get_or rows' k []) l ≡ 1) ↔ ((at (get_or rows k []) l ≡ 1) × Stays k l)
+  pub rest : (k : ℕ) → (In places k → In left k) → get_or rows' k [] ≡ get_or rows k []
+
+module _ (rows : List (List ℕ)) (Stays : ℕ → ℕ → Type 0) (n : ℕ) (places : Set) where
+  pub cut_none : Cut rows rows Stays n places places
+  cut_none = record { inside = λ k h. h; done = λ k l h out. absurd (out h); rest = λ k h. refl }
+
+  pub cut_more : (rows' : List (List ℕ)) (left : Set) (k : ℕ) (left' : Set) (row : List ℕ) → k < length rows' → Cut rows rows' Stays n places left → Splits left k left' →
+      ((l : ℕ) → l < n → (at row l ≡ 1) ↔ ((at (get_or rows' k []) l ≡ 1) × Stays k l)) → Cut rows (set rows' k row) Stays n places left'
+  cut_more rows' left k left' row room C S kept = record {
+    inside = λ j h. C.inside j ((S.others j).0 h).0;
+    done = λ j l. after_set [] rows' k row room
+        (λ j r. In places j → (In left' j → ⊥) → l < n → (at r l ≡ 1) ↔ ((at (get_or rows j []) l ≡ 1) × Stays j l))
+        (λ _ _ low. subst (λ r. (at row l ≡ 1) ↔ ((at r l ≡ 1) × Stays k l)) (C.rest k (λ _. S.has)) (kept l low))
+        (λ j other h out low. C.done j l h (λ i. out ((S.others j).1 (i, other))) low)
+        j;
+    rest = λ j h.
+        let other : j ≡ k → ⊥ = λ e. ((S.others j).0 (h (subst (λ i. In places i) (sym e) (C.inside k S.has)))).1 e in
+        get_or-set_other rows' k j row [] other ∙ C.rest j (λ p. ((S.others j).0 (h p)).0);
   }

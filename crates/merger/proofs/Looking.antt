@@ -87,6 +87,14 @@ outlook_from reach moves ahead P wanted x k h closed tells union c = (
   (λ p. (union c).1 (p.0, p.1, p.2, (tells p.0 (closed k p.0 h p.1 p.2) c).1 p.3)),
 )
 
+-- and of one that reaches only itself
+pub outlook_own : (reach : Reach) (moves ahead : List Set) (P : Partition) (k : ℕ) → k < P.len → ((l : ℕ) → On reach k l ↔ (l ≡ k)) →
+    ((c : ℕ) → In (set_at ahead k) c ↔ Ahead (In (set_at moves k)) (at P.class) k c) → (c : ℕ) → In (set_at ahead k) c ↔ Outlook reach moves P k c
+outlook_own reach moves ahead P k low only tells c = (
+  (λ h. (k, low, (only k).1 refl, (tells c).0 h)),
+  (λ p. (tells c).1 (subst (λ l. Ahead (In (set_at moves l)) (at P.class) l c) ((only p.0).0 p.2) p.3)),
+)
+
 -- all has the members of the classes below n that have two members
 abbrev pub SharedBelow : List Set → Set → ℕ → Type 0
 SharedBelow members all n = (k : ℕ) → In all k ↔ ((c : ℕ) × (c < n) × Several (set_at members c) × In (set_at members c) k)

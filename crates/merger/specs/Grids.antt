@@ -11,10 +11,6 @@ at row k = slice_index row k
 abbrev pub set_at : List Set → ℕ → Set
 set_at sets k = slice_index_or sets k none
 
--- row' is row without the marks of the components in gone
-abbrev pub Kept : List ℕ → List ℕ → Set → Type 0
-Kept row row' gone = (l : ℕ) → (at row' l ≡ 1) ↔ ((at row l ≡ 1) × (In gone l → ⊥))
-
 -- members has the items of each class, of those below count
 pub record Groups (members : List Set) (class : List ℕ) (count : ℕ) : Type 0 where
   pub low : (k : ℕ) → k < count → at class k < 128

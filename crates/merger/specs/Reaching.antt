@@ -18,7 +18,6 @@ Outlook reach moves P k c = (l : ℕ) × (l < P.len) × On reach k l × Ahead (I
 abbrev pub Outlooks : List Set → Reach → List Set → Partition → Set → Type 0
 Outlooks rows reach moves P wanted = (k : ℕ) → In wanted k → (c : ℕ) → In (set_at rows k) c ↔ Outlook reach moves P k c
 
--- reach' is reach without what was in one class by P and is in two by P'
-abbrev pub Narrowed : Reach → Reach → Partition → Partition → Type 0
-Narrowed reach reach' P P' = (k l : ℕ) → k < P.len →
-    On reach' k l ↔ (On reach k l × (l < P.len → at P.class l ≡ at P.class k → at P'.class l ≡ at P'.class k))
+-- reach' is reach without the pairs that are in two classes
+abbrev pub Narrowed : Reach → Reach → Partition → Type 0
+Narrowed reach reach' P = (k l : ℕ) → k < P.len → l < P.len → On reach' k l ↔ (On reach k l × (at P.class l ≡ at P.class k))

@@ -12,7 +12,7 @@ pub(crate) fn advance(found: &Found, rounds: &mut Rounds)
     let wanted = rounds.partition.shared();
     let rows = outlooks(&rounds.reach, &found.moves, &rounds.partition, wanted);
     let parted = rounds.partition.refined(&rows);
-    rounds.reach.narrow(&rounds.partition, &parted);
+    rounds.reach.narrow(&parted);
     rounds.settled = parted.classes() == rounds.partition.classes();
     rounds.partition = parted;
     rounds.made += 1;

@@ -6,7 +6,7 @@ ghost use Rattle.merger.specs.Reaching.{On, Outlooks};
 
 use crate::partition::Partition;
 use crate::reach::Reach;
-use crate::tables::table;
+use crate::tables::{table, write};
 use sets::Set;
 
 // The own class of a component is ahead of it too where the component is cyclic.
@@ -26,6 +26,15 @@ fn ahead(moves: Set, classes: &Partition, from: usize) -> Set
     with_own(others, classes.class_of(from), moves.has(from))
 }
 
+// For each component in `wanted`, the classes one move ahead of it.
+fn all_ahead(moves: &[Set; 128], classes: &Partition, wanted: Set) -> [Set; 128]
+    requires wanted { (k : ℕ) → In wanted k → k < classes.now.len }
+    requires inside { (k : ℕ) → In wanted k → (to : ℕ) → In (set_at moves.now k) to → to < classes.now.len }
+    ensures { (k : ℕ) → In wanted k → (c : ℕ) → In (set_at result k) c ↔ Ahead (In (set_at moves.now k)) (at classes.now.class) k c }
+{
+    table(Set::NONE, wanted, |k| ahead(moves[k], classes, k))
+}
+
 // For each component in `wanted`, the classes one move ahead of what it reaches. What is reached from there is wanted too.
 pub(crate) fn outlooks(
     reach: &Reach,
@@ -38,6 +47,11 @@ pub(crate) fn outlooks(
     requires closed { (k l : ℕ) → In wanted k → l < classes.now.len → On reach.now k l → In wanted l }
     ensures { Outlooks result reach.now moves.now classes.now wanted }
 {
-    let ahead = table(Set::NONE, wanted, |k| ahead(moves[k], classes, k));
-    table(Set::NONE, wanted, |k| { reach.union(k, &ahead, classes) })
+    let ahead = all_ahead(moves, classes, wanted);
+    // one that reaches only itself sees what is ahead of it
+    let mut rows = ahead;
+    write(&mut rows, wanted.minus(reach.still()), |k| {
+        reach.union(k, &ahead, classes)
+    });
+    rows
 }

@@ -15,5 +15,6 @@ mod opening;
 mod partition;
 pub mod performing;
 mod reach;
+mod reaching;
 pub mod reduced;
 pub mod tables;

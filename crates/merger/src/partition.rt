@@ -165,6 +165,18 @@ impl Partition {
         self.members[self.class_of(k)]
     }
 
+    // Clears the marks of items that do not share the class of item `k`.
+    pub(crate) fn clear_others(&self, k: usize, marks: &mut [u8; 128])
+        requires { k < self.now.len }
+        ensures { (j : ℕ) → j < self.now.len → (at marks.new j ≡ 1) ↔ ((at marks.old j ≡ 1) × (at self.now.class j ≡ at self.now.class k)) }
+    {
+        let own = self.class[k];
+        for (j, mark) in marks.iter_mut().enumerate() {
+            // written in either case, so that many marks are one step of the machine
+            *mark = if self.class[j] == own { *mark } else { 0 };
+        }
+    }
+
     // The classes of some items.
     pub(crate) fn classes_of(&self, items: Set) -> Set
         requires { (k : ℕ) → In items k → k < self.now.len }

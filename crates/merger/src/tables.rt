@@ -33,6 +33,18 @@ pub struct Rounds {
     pub(crate) reach: Reach,
 }
 
+// Writes what `make` gives into each of `places`, and leaves the others.
+// Kept: a table of fixed size, since the libraries take no heap.
+pub(crate) fn write<T: Copy, F: Fn(usize) -> T>(table: &mut [T; 128], places: Set, make: F)
+    requires can { (k : ℕ) → In places k → k < 128 → F.pre make k }
+    ensures made { (k : ℕ) (d : T) → In places k → F.post make k (slice_index_or table.new k d) }
+    ensures others { (k : ℕ) (d : T) → (In places k → ⊥) → slice_index_or table.new k d ≡ slice_index_or table.old k d }
+{
+    for k in places {
+        table[k] = make(k);
+    }
+}
+
 // The table that has what `make` gives at each of `places`, and `blank` at the others.
 // Kept: a table of fixed size, since the libraries take no heap.
 pub(crate) fn table<T: Copy, F: Fn(usize) -> T>(blank: T, places: Set, make: F) -> [T; 128]
@@ -41,8 +53,6 @@ pub(crate) fn table<T: Copy, F: Fn(usize) -> T>(blank: T, places: Set, make: F) 
     ensures others { (k : ℕ) → (In places k → ⊥) → slice_index_or result k blank ≡ blank }
 {
     let mut table = [blank; 128];
-    for k in places {
-        table[k] = make(k);
-    }
+    write(&mut table, places, make);
     table
 }

@@ -35,7 +35,7 @@ returns c =
       classes = subst (λ n. Numbering (Together F S) n (at p.class) p.classes) B.items
           (numbering_as _ _ _ _ _ (like_together F S B w s c.outlooks-rows.result c.outlooks-rows.ensures) c.refined-parted.ensures.numbers);
       items = c.refined-parted.ensures.len ∙ B.items;
-      reach = cut_parted F S B w s c.narrow.new.self p c.narrow.ensures;
+      reach = cut_parted F S B w s c.narrow.new.self p c.refined-parted.ensures.len c.narrow.ensures;
       ends = λ e. let q = eqb-true c.classes.result c.classes-2.result e in omega arith;
       goes = λ e q. eqb-false c.classes.result c.classes-2.result e (omega arith);
     }

@@ -1,15 +1,6 @@
-use Rattle.std.proofs.Common.{sym, subst, inl}
-use Rattle.sets.specs.declared.Set.{Set}
-use Rattle.sets.specs.Sets.{In}
+use Rattle.std.proofs.Common.{◌∙◌}
 use Rattle.merger.proofs.Blank.{blank}
 use Rattle.merger.proofs.tables.table.Goals as goal
 
-pub loop-k-init : goal.loop-k-init
-loop-k-init g c =
-    let e = c.into_iter-k-iterator.ensures.into_iter_gives in (
-      tt,
-      tt,
-      (λ k h. subst (λ (x : Set). In x k) e h),
-      (λ k d h. inl (subst (λ (x : Set). In x k) (sym e) h)),
-      (λ k _. blank 128 k c.args.blank),
-    )
+pub returns-clause-others : goal.returns-clause-others
+returns-clause-others g c k out = c.write.ensures.others k c.args.blank out ∙ blank 128 k c.args.blank

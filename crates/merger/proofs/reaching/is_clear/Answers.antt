@@ -2,7 +2,7 @@ use Rattle.std.proofs.Common.{◌≡◌, ℕ, ◌+◌, ◌*◌, arith}
 use Rattle.std.proofs.lemmas.Bool.{eqb-true, eq-eqb}
 use Rattle.merger.specs.Grids.{at}
 use Rattle.merger.proofs.Gathering.{eight}
-use Rattle.merger.proofs.reach.is_clear.Goals as goal
+use Rattle.merger.proofs.reaching.is_clear.Goals as goal
 
 pub returns : goal.returns
 returns c =

@@ -1,7 +1,7 @@
 use Rattle.std.proofs.Common.{◌+◌, length, subst, arith, rules, ◌∙◌, sym}
 use Rattle.sets.specs.Sets.{none}
 use Rattle.merger.proofs.Gathering.{Added, pair_turn, added_off, added_on}
-use Rattle.merger.proofs.reach.union_between.Goals as goal
+use Rattle.merger.proofs.reaching.union_between.Goals as goal
 
 pub loop-mark-preserved-then-mark-eq1 : goal.loop-mark-preserved-then-mark-eq1
 loop-mark-preserved-then-mark-eq1 c =
