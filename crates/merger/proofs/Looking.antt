@@ -1,9 +1,10 @@
 -- The classes one move ahead of a component.
-use Rattle.std.proofs.Common.{◌≡◌, ℕ, ◌+◌, ◌<◌, Bool, true, ◌⊎◌, ◌↔◌, List, Decides, sym, refl, ap, ◌∙◌, subst, inl, inr, ⊎_elim, arith}
+use Rattle.std.proofs.Common.{◌≡◌, ℕ, ◌+◌, ◌<◌, ◌≤◌, ◌⊎◌, ◌↔◌, List, sym, refl, ◌∙◌, subst, inl, inr, ⊎_elim, arith}
+use Rattle.std.specs.Prelude.{◌≢◌}
 use Rattle.std.proofs.lemmas.Bool.{cases_eq}
 use Rattle.sets.specs.declared.Set.{Set}
 use Rattle.sets.specs.Sets.{In, none, Splits}
-use Rattle.sets.proofs.Bits.{in_dec, none_in}
+use Rattle.sets.proofs.Bits.{On as BitOn, in_dec, none_in}
 use Rattle.merger.specs.declared.partition.Partition.{Partition}
 use Rattle.merger.specs.declared.reach.Reach.{Reach}
 use Rattle.merger.specs.Reaching.{On, Outlook}
@@ -15,6 +16,13 @@ pub record Looked (class : List ℕ) (leaving all left : Set) : Type 0 where
   pub whole : (to : ℕ) → In leaving to → In left to ⊎ In all (at class to)
   pub inside : (to : ℕ) → In left to → In leaving to
 
+-- a set that is no more than another, and lacks a member of it, is less
+pub looked_fewer : (left left' : Set) (to : ℕ) → In left to → (In left' to → ⊥) → left'.bits ≤ left.bits → left'.bits < left.bits
+looked_fewer left left' to was gone most = ⊎_elim
+    (λ e. absurd (gone (subst (λ (b : ℕ). BitOn b to) (sym e) was)))
+    (λ other. omega arith)
+    (cases_eq left'.bits left.bits)
+
 module _ (class : List ℕ) (leaving : Set) where
   pub looked_none : Looked class leaving none leaving
   looked_none = record { sound = λ c h. absurd (none_in c h); whole = λ to h. inl h; inside = λ to h. h }
@@ -23,20 +31,17 @@ module _ (class : List ℕ) (leaving : Set) where
   pub looked_more : (all left : Set) (to one : ℕ) (rest all' left' group : Set) → one ≡ at class to → one < 128 → ((l : ℕ) → In group l → at class l ≡ one) →
       Looked class leaving all left → Splits left to rest →
       ((j : ℕ) → In all' j ↔ (In all j ⊎ ((j ≡ one) × (one < 128)))) →
-      ((j : ℕ) → In left' j ↔ (In rest j × (In group j → ⊥))) → Looked class leaving all' left'
+      ((j : ℕ) → In left' j ↔ (In left j × (In group j → ⊥))) → Looked class leaving all' left'
   looked_more all left to one rest all' left' group is low same L S with' minus = record {
     sound = λ c h. ⊎_elim (λ was. L.sound c was) (λ e. (to, L.inside to S.has, sym is ∙ sym e.0)) ((with' c).0 h);
     whole = λ l h. ⊎_elim
         (λ in_left. ⊎_elim
         (λ in_group. inr ((with' (at class l)).1 (inr (same l in_group, low))))
-        (λ out. ⊎_elim
-        (λ e. inr ((with' (at class l)).1 (inr (ap (at class) e ∙ sym is, low))))
-        (λ other. inl ((minus l).1 ((S.others l).1 (in_left, other), out)))
-        (cases_eq l to))
+        (λ out. inl ((minus l).1 (in_left, out)))
         (in_dec group.bits l))
         (λ seen. inr ((with' (at class l)).1 (inl seen)))
         (L.whole l h);
-    inside = λ l h. L.inside l ((S.others l).0 ((minus l).0 h).0).0;
+    inside = λ l h. L.inside l ((minus l).0 h).0;
   }
 
   pub looked_all : (all left : Set) → ((l : ℕ) → In left l → ⊥) → Looked class leaving all left →
@@ -46,34 +51,30 @@ module _ (class : List ℕ) (leaving : Set) where
     λ p. ⊎_elim (λ h. absurd (empty p.0 h)) (λ h. subst (λ i. In all i) p.2 h) (L.whole p.0 p.1),
   )
 
--- the moves that leave the class, and those that stay in the component
-module _ (P : Partition) (from : ℕ) (low : from < P.len) (moves leaving others group : Set)
+-- the moves that leave the class or stay in the component are those that go to no other component of the class
+module _ (P : Partition) (from : ℕ) (low : from < P.len) (moves leaving all mates : Set)
     (inside : (to : ℕ) → In moves to → to < P.len)
-    (mates : (j : ℕ) → In group j ↔ ((j < P.len) × (at P.class j ≡ at P.class from)))
-    (leaves : (j : ℕ) → In leaving j ↔ (In moves j × (In group j → ⊥)))
-    (tells : (c : ℕ) → In others c ↔ ((to : ℕ) × In leaving to × (at P.class to ≡ c))) where
-  away : (to : ℕ) → In moves to → (at P.class to ≡ at P.class from → ⊥) → In leaving to
-  away to h other = (leaves to).1 (h, λ g. other ((mates to).0 g).1)
-
-  left-away : (to : ℕ) → In leaving to → at P.class to ≡ at P.class from → ⊥
-  left-away to h e = let p = (leaves to).0 h in p.1 ((mates to).1 (inside to p.0, e))
-
-  pub ahead_all : (all : Set) (own : ℕ) (cyclic : Bool) → own ≡ at P.class from → Decides cyclic (In moves from) →
-      ((c : ℕ) → In all c ↔ (In others c ⊎ ((c ≡ own) × (own < 128) × (cyclic ≡ true)))) →
-      (c : ℕ) → In all c ↔ Ahead (In moves) (at P.class) from c
-  ahead_all all own cyclic is turns joined c = (
-    (λ h. ⊎_elim
-        (λ o. let p = (tells c).0 o in (p.0, ((leaves p.0).0 p.1).0, inl (left-away p.0 p.1), p.2))
-        (λ e. (from, turns.0 e.2, inr refl, sym is ∙ sym e.0))
-        ((joined c).0 h)),
-    (λ p. (joined c).1 (elim p.2 [
-      | inl other ↦ inl ((tells c).1 (p.0, away p.0 p.1 other, p.3))
-      | inr same ↦ inr (
-        sym p.3 ∙ ap (at P.class) same ∙ sym is,
-        (let l = P.groups.low from low in omega arith),
-        turns.1 (subst (λ i. In moves i) same p.1),
-      )
-    ])),
+    (others : (j : ℕ) → In mates j ↔ ((j < P.len) × (at P.class j ≡ at P.class from) × (j ≢ from)))
+    (leaves : (j : ℕ) → In leaving j ↔ (In moves j × (In mates j → ⊥)))
+    (tells : (c : ℕ) → In all c ↔ ((to : ℕ) × In leaving to × (at P.class to ≡ c))) where
+  pub ahead_all : (c : ℕ) → In all c ↔ Ahead (In moves) (at P.class) from c
+  ahead_all c = (
+    (λ h.
+        let p = (tells c).0 h in
+        let to : ℕ = p.0 in
+        let l = (leaves to).0 p.1 in (
+          to,
+          l.0,
+          ⊎_elim
+              (λ e. inr e)
+              (λ other. inl (λ same. l.1 ((others to).1 (inside to l.0, same, other))))
+              (cases_eq to from),
+          p.2,
+        )),
+    (λ p.
+        let to : ℕ = p.0 in
+        let out : In mates to → ⊥ = λ m. let o = (others to).0 m in ⊎_elim (λ n. n o.1) (λ e. o.2 e) p.2 in
+        (tells c).1 (to, (leaves to).1 (p.1, out), p.3)),
   )
 
 -- what is ahead of each component, seen from what k reaches

@@ -9,21 +9,13 @@ use crate::reach::Reach;
 use crate::tables::{table, write};
 use sets::Set;
 
-// The own class of a component is ahead of it too where the component is cyclic.
-fn with_own(others: Set, own: usize, cyclic: bool) -> Set
-    ensures { (c : ℕ) → In result c ↔ (In others c ⊎ ((c ≡ own) × (own < 128) × (cyclic ≡ true))) }
-{
-    if cyclic { others.with(own) } else { others }
-}
-
 // The classes one move ahead of component `from`: other classes, and its own where the component is cyclic.
 fn ahead(moves: Set, classes: &Partition, from: usize) -> Set
     requires from { from < classes.now.len }
     requires inside { (to : ℕ) → In moves to → to < classes.now.len }
     ensures { (c : ℕ) → In result c ↔ Ahead (In moves) (at classes.now.class) from c }
 {
-    let others = classes.classes_of(moves.minus(classes.group_of(from)));
-    with_own(others, classes.class_of(from), moves.has(from))
+    classes.classes_of(moves.minus(classes.mates_of(from)))
 }
 
 // For each component in `wanted`, the classes one move ahead of it.

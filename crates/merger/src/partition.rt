@@ -165,6 +165,14 @@ impl Partition {
         self.members[self.class_of(k)]
     }
 
+    // The other items that share the class of item `k`.
+    pub(crate) fn mates_of(&self, k: usize) -> Set
+        requires { k < self.now.len }
+        ensures { (j : ℕ) → In result j ↔ ((j < self.now.len) × (at self.now.class j ≡ at self.now.class k) × (j ≢ k)) }
+    {
+        self.group_of(k).minus(Set::NONE.with(k))
+    }
+
     // Clears the marks of items that do not share the class of item `k`.
     pub(crate) fn clear_others(&self, k: usize, marks: &mut [u8; 128])
         requires { k < self.now.len }
@@ -185,10 +193,10 @@ impl Partition {
         let mut all = Set::NONE;
         let mut left = items;
         // no `for` over the items: a turn drops a whole class, which saves a quarter of the instructions where moves are many
-        while let Some((k, rest)) = left.split_first() {
+        while let Some((k, _)) = left.split_first() {
             let class = self.class_of(k);
             all = all.with(class);
-            left = rest.minus(self.members[class]);
+            left = left.minus(self.members[class]);
         }
         all
     }
