@@ -1,117 +1,278 @@
--- Items that are given classes one after the other, each that of one before it which it is like.
-use Rattle.std.proofs.Common.{◌≡◌, ℕ, ◌+◌, ◌^◌, ◌<◌, max, ◌⊎◌, ◌↔◌, List, length, set, Option, Some, None, sym, refl, ap, ◌∙◌, subst, inl, inr, ⊎_elim, arith}
-use Rattle.std.specs.Prelude.{MatchOption}
-use Rattle.std.specs.List.{AllWithin, HoldsAt}
-use Rattle.std.proofs.lemmas.Bool.{cases_eq, cases_lt}
-use Rattle.std.proofs.lemmas.List.{get_or-set_same}
+-- Items that are put into classes: each first item that has no class yet, with all that are like it.
+use Rattle.std.proofs.Common.{◌≡◌, ℕ, ◌+◌, ◌<◌, ◌≤◌, ◌⊎◌, ◌↔◌, List, length, set, sym, refl, ◌∙◌, subst, inl, inr, ⊎_elim, arith}
+use Rattle.std.proofs.lemmas.Bool.{cases_eq}
 use Rattle.sets.specs.declared.Set.{Set}
-use Rattle.sets.specs.Sets.{In, none, members}
-use Rattle.sets.proofs.Bits.{none_in, high_out}
-use Rattle.sets.proofs.Members.{members_has, members_in}
+use Rattle.sets.specs.Sets.{In, none, Splits}
+use Rattle.sets.proofs.Bits.{On, in_dec, none_in}
 use Rattle.kripke.specs.Numbering.{Numbering}
-use Rattle.merger.specs.declared.partition.Partition.{Partition}
-use Rattle.kripke.proofs.Numbering.{number-none, number_old, number_new}
-use Rattle.merger.specs.Grids.{at, set_at, Same, Like}
+use Rattle.merger.specs.Grids.{at, set_at, Groups, Same, Like}
 use Rattle.merger.proofs.Blank.{after_set}
 
--- what `find` gives, told of a set's members
-pub found_member : (x : Set) → x.bits < 2 ^ 128 → (r : Option ℕ) (Yes No : ℕ → Type 0) →
-    MatchOption r (AllWithin No (members x) 0 (length (members x)))
-    (λ j. Yes j × (i : ℕ) × (i < length (members x)) × HoldsAt (λ y. y ≡ j) (members x) i × AllWithin No (members x) 0 i) →
-    MatchOption r ((j : ℕ) → In x j → No j) (λ j. In x j × Yes j)
-found_member x fits None Yes No all = λ j h.
-    let small : j < 128 = ⊎_elim (λ l. l) (λ past. absurd (high_out 128 x.bits j fits past h)) (cases_lt j 128) in
-    let p = members_has x j 0 small h in
-    subst No p.2 (all p.0 0 (omega arith) p.1)
-found_member x fits (Some j) Yes No p = (subst (λ i. In x i) (p.3 0) (members_in x p.1 0 p.2), p.0)
+pub same_own : (x : Set) → Same x x
+same_own x c = ((λ h. h), (λ h. h))
 
--- the items below k are those of P, and each class of P has its first item among the heads of its old class
-pub record Placed (rows : List Set) (class : List ℕ) (P : Partition) (heads : List Set) (k : ℕ) : Type 0 where
-  pub items : P.len ≡ k
-  pub numbers : Numbering (Like rows class) k (at P.class) P.classes
-  pub heads_sound : (c j : ℕ) → In (set_at heads c) j → (j < k) × (at class j ≡ c)
-  pub heads_whole : (j : ℕ) → j < k → (i : ℕ) × In (set_at heads (at class j)) i × (at P.class i ≡ at P.class j)
+-- two sets that are not other than each other are the same
+pub same_stable : (x y : Set) → ((Same x y → ⊥) → ⊥) → Same x y
+same_stable x y not_other c = (
+  (λ h. ⊎_elim (λ i. i) (λ out. absurd (not_other (λ s. out ((s c).0 h)))) (in_dec y.bits c)),
+  (λ h. ⊎_elim (λ i. i) (λ out. absurd (not_other (λ s. out ((s c).1 h)))) (in_dec x.bits c)),
+)
 
-module _ (rows : List Set) (class : List ℕ) where
-  pub like_own : (i : ℕ) → Like rows class i i
-  like_own i = (refl, λ c. (λ h. h, λ h. h))
+-- of group, those that have row and are no more in left have class c, and others has the others
+pub record Sorted (rows : List Set) (row group : Set) (c : ℕ) (class class' : List ℕ) (others left : Set) : Type 0 where
+  pub inside : (j : ℕ) → In left j → In group j
+  pub fails : (j : ℕ) → In others j ↔ (In group j × (In left j → ⊥) × (Same (set_at rows j) row → ⊥))
+  pub placed : (j : ℕ) → In group j → (In left j → ⊥) → Same (set_at rows j) row → at class' j ≡ c
+  pub kept : (j : ℕ) → (In group j → (In left j → ⊥) → Same (set_at rows j) row → ⊥) → at class' j ≡ at class j
 
-  pub like_turn : (i j : ℕ) → Like rows class i j → Like rows class j i
-  like_turn i j p = (sym p.0, λ c. ((p.1 c).1, (p.1 c).0))
+module _ (rows : List Set) (row group : Set) (c : ℕ) (class class' : List ℕ) (others left : Set) (k : ℕ) (left' : Set)
+    (A : Sorted rows row group c class class' others left) (S : Splits left k left') where
+  -- what was in left and is not k still is
+  stays : (j : ℕ) → (j ≡ k → ⊥) → (In left' j → ⊥) → In left j → ⊥
+  stays j other out h = out ((S.others j).1 (h, other))
 
-  pub like_join : (i j k : ℕ) → Like rows class i j → Like rows class j k → Like rows class i k
-  like_join i j k p q = (p.0 ∙ q.0, λ c. ((λ h. (q.1 c).0 ((p.1 c).0 h)), (λ h. (p.1 c).1 ((q.1 c).1 h))))
+  out-of : (j : ℕ) → (In left j → ⊥) → In left' j → ⊥
+  out-of j out h = out ((S.others j).0 h).0
 
-  pub placed-none : (P : Partition) → P.len ≡ 0 → P.classes ≡ 0 → (heads : List Set) → ((c : ℕ) → set_at heads c ≡ none) → Placed rows class P heads 0
-  placed-none P empty none' heads h = record {
-    items = empty;
-    numbers = subst (λ m. Numbering (Like rows class) 0 (at P.class) m) (sym none') (number-none (Like rows class) (at P.class));
-    heads_sound = λ c j i. absurd (none_in j (subst (λ x. In x j) (h c) i));
-    heads_whole = λ j l. absurd (omega arith);
+  k-out : In left' k → ⊥
+  k-out h = ((S.others k).0 h).1 refl
+
+  pub sorted_on : k < length class' → Same (set_at rows k) row → Sorted rows row group c class (set class' k c) others left'
+  sorted_on room same = record {
+    inside = λ j h. A.inside j ((S.others j).0 h).0;
+    fails = λ j. (
+      (λ h. let p = (A.fails j).0 h in (p.0, out-of j p.1, p.2)),
+      (λ p. (A.fails j).1 (
+        p.0,
+        ⊎_elim
+            (λ e. absurd (p.2 (subst (λ i. Same (set_at rows i) row) (sym e) same)))
+            (λ other. stays j other p.1)
+            (cases_eq j k),
+        p.2,
+      )),
+    );
+    placed = λ j. after_set 0 class' k c room (λ j v. In group j → (In left' j → ⊥) → Same (set_at rows j) row → v ≡ c)
+        (λ _ _ _. refl)
+        (λ j other g out s. A.placed j g (stays j other out) s)
+        j;
+    kept = λ j. after_set 0 class' k c room (λ j v. (In group j → (In left' j → ⊥) → Same (set_at rows j) row → ⊥) → v ≡ at class j)
+        (λ h. absurd (h (A.inside k S.has) k-out same))
+        (λ j other h. A.kept j (λ g out s. h g (out-of j out) s))
+        j;
   }
 
-  -- P' is P with item k in a class
-  module _ (P P' : Partition) (heads : List Set) (k into : ℕ) (A : Placed rows class P heads k) (len : P'.len ≡ P.len + 1)
-      (classes : P'.classes ≡ max P.classes (into + 1)) (last : at P'.class P.len ≡ into) (others : (i : ℕ) → i < P.len → at P'.class i ≡ at P.class i) where
-    kept : (i : ℕ) → i < k → at P'.class i ≡ at P.class i
-    kept i h = let e = A.items in others i (omega arith)
+  pub sorted_off : (others' : Set) → (Same (set_at rows k) row → ⊥) → ((j : ℕ) → In others' j ↔ (In others j ⊎ ((j ≡ k) × (k < 128)))) →
+      Sorted rows row group c class class' others' left'
+  sorted_off others' other_row with' = record {
+    inside = λ j h. A.inside j ((S.others j).0 h).0;
+    fails = λ j. (
+      (λ h. ⊎_elim
+          (λ was. let p = (A.fails j).0 was in (p.0, out-of j p.1, p.2))
+          (λ e. subst (λ i. In group i × (In left' i → ⊥) × (Same (set_at rows i) row → ⊥)) (sym e.0) (A.inside k S.has, k-out, other_row))
+          ((with' j).0 h)),
+      (λ p. (with' j).1 (⊎_elim
+          (λ e. inr (e, S.small))
+          (λ other. inl ((A.fails j).1 (p.0, stays j other p.1, p.2)))
+          (cases_eq j k))),
+    );
+    placed = λ j g out s. ⊎_elim
+        (λ e. absurd (other_row (subst (λ i. Same (set_at rows i) row) e s)))
+        (λ other. A.placed j g (stays j other out) s)
+        (cases_eq j k);
+    kept = λ j h. A.kept j (λ g out s. h g (out-of j out) s);
+  }
 
-    here : at P'.class k ≡ into
-    here = ap (at P'.class) (sym A.items) ∙ last
+-- classes 0 to m - 1 have their items, and all items before k have a class: the class of an item without one is 128
+pub record Parted (rows : List Set) (old : List ℕ) (n : ℕ) (class : List ℕ) (members left : List Set) (m k : ℕ) : Type 0 where
+  pub most : m ≤ k
+  pub past : (j : ℕ) → j < k → j < n → at class j < m
+  pub each : (j : ℕ) → j < n → (at class j ≡ 128) ⊎ (at class j < m)
+  pub rest : (c j : ℕ) → In (set_at left c) j ↔ ((j < n) × (at old j ≡ c) × (at class j ≡ 128))
+  pub groups : (c j : ℕ) → In (set_at members c) j ↔ ((j < n) × (at class j ≡ c) × (c < m))
+  pub same : (i j : ℕ) → i < n → j < n → at class i < m → at class j < m → (at class i ≡ at class j) ↔ Like rows old i j
+  pub apart : (i j : ℕ) → i < n → j < n → at class i < m → at class j ≡ 128 → Like rows old i j → ⊥
+  pub member : (c : ℕ) → c < m → (s : ℕ) × (s < k) × (s < n) × (at class s ≡ c)
+  pub order : (s i : ℕ) → s < n → at class s < m → i < at class s → (t : ℕ) × (t < s) × (at class t ≡ i)
 
-    -- the class of a head of its old class, which it is like
-    pub placed_old : (j : ℕ) → into ≡ at P.class j → In (set_at heads (at class k)) j → Same (set_at rows j) (set_at rows k) → Placed rows class P' heads (k + 1)
-    placed_old j is head same =
-        let s = A.heads_sound (at class k) j head in
-        let b = A.numbers.ranked.below j s.0 in
-        let still : P'.classes ≡ P.classes = omega arith in
-        record {
-          items = let e = A.items in omega arith;
-          numbers = subst (λ m. Numbering (Like rows class) (k + 1) (at P'.class) m) (sym still)
-              (number_old (Like rows class) like_turn like_join k P.classes (like_own k) (at P.class) (at P'.class) A.numbers kept j s.0 (s.1, same) (here ∙ is));
-          heads_sound = λ c i h. let p = A.heads_sound c i h in (omega (arith, p.0), p.1);
-          heads_whole = λ i l. ⊎_elim
-              (λ e. subst (λ i. (h : ℕ) × In (set_at heads (at class i)) h × (at P'.class h ≡ at P'.class i)) (sym e) (j, head, kept j s.0 ∙ sym is ∙ sym here))
-              (λ other.
-              let p = A.heads_whole i (omega arith) in
-              let q = A.heads_sound (at class i) p.0 p.1 in
-              (p.0, p.1, kept p.0 q.0 ∙ p.2 ∙ sym (kept i (omega arith))))
-              (cases_eq i k);
-        }
+module _ (rows : List Set) (old : List ℕ) (n : ℕ) (few : n ≤ 128) where
+  pub parted_none : (class : List ℕ) (members left : List Set) → ((j : ℕ) → j < n → at class j ≡ 128) → ((c : ℕ) → set_at members c ≡ none) →
+      Groups left old n → Parted rows old n class members left 0 0
+  parted_none class members left free empty G = record {
+    most = omega arith;
+    past = λ j h. absurd (omega arith);
+    each = λ j h. inl (free j h);
+    rest = λ c j. ((λ h. let p = (G.each c j).0 h in (p.0, p.1, free j p.0)), (λ p. (G.each c j).1 (p.0, p.1)));
+    groups = λ c j. ((λ h. absurd (none_in j (subst (λ (x : Set). In x j) (empty c) h))), (λ p. absurd (omega (arith, p.2))));
+    same = λ i j h l b. absurd (omega arith);
+    apart = λ i j h l b. absurd (omega arith);
+    member = λ c h. absurd (omega arith);
+    order = λ s i h b. absurd (omega arith);
+  }
 
-    -- a class that it opens, as it is like no head
-    pub placed_new : (y : Set) → into ≡ P.classes → k < 128 → at class k < length heads →
-        ((j : ℕ) → In (set_at heads (at class k)) j → Same (set_at rows j) (set_at rows k) → ⊥) →
-        ((i : ℕ) → In y i ↔ (In (set_at heads (at class k)) i ⊎ ((i ≡ k) × (k < 128)))) →
-        Placed rows class P' (set heads (at class k) y) (k + 1)
-    placed_new y is low tall apart with' =
-        let more : P'.classes ≡ P.classes + 1 = omega arith in
-        record {
-          items = let e = A.items in omega arith;
-          numbers = subst (λ m. Numbering (Like rows class) (k + 1) (at P'.class) m) (sym more)
-              (number_new (Like rows class) like_turn like_join k P.classes (like_own k) (at P.class) (at P'.class) A.numbers kept
-              (λ j l q.
-              let p = A.heads_whole j l in
-              let s = A.heads_sound (at class j) p.0 p.1 in
-              let near = (A.numbers.same p.0 j s.0 l).0 p.2 in
-              apart p.0 (subst (λ c. In (set_at heads c) p.0) q.0 p.1) (like_join p.0 j k near q).1)
-              (here ∙ is));
-          heads_sound = λ c i h. after_set none heads (at class k) y tall (λ c z. In z i → (i < k + 1) × (at class i ≡ c))
-              (λ h. ⊎_elim
-              (λ was. let p = A.heads_sound (at class k) i was in (omega (arith, p.0), p.1))
-              (λ e. (omega (arith, e.0), ap (at class) e.0))
-              ((with' i).0 h))
-              (λ c other h. let p = A.heads_sound c i h in (omega (arith, p.0), p.1))
-              c h;
-          heads_whole = λ i l. ⊎_elim
-              (λ e. subst (λ i. (h : ℕ) × In (set_at (set heads (at class k) y) (at class i)) h × (at P'.class h ≡ at P'.class i)) (sym e)
-              (k, subst (λ z. In z k) (sym (get_or-set_same heads (at class k) y none tall)) ((with' k).1 (inr (refl, low))), refl))
-              (λ other.
-              let p = A.heads_whole i (omega arith) in
-              let q = A.heads_sound (at class i) p.0 p.1 in (
-                p.0,
-                after_set none heads (at class k) y tall (λ c z. In (set_at heads c) p.0 → In z p.0) (λ h. (with' p.0).1 (inl h)) (λ c n h. h) (at class i) p.1,
-                kept p.0 q.0 ∙ p.2 ∙ sym (kept i (omega arith)),
-              ))
-              (cases_eq i k);
-        }
+  -- item k has its class already
+  pub parted_past : (class : List ℕ) (members left : List Set) (m k : ℕ) → Parted rows old n class members left m k → k < n → (at class k ≡ 128 → ⊥) →
+      Parted rows old n class members left m (k + 1)
+  parted_past class members left m k A low had = record {
+    most = let a = A.most in omega arith;
+    past = λ j h b. ⊎_elim
+        (λ e. subst (λ i. at class i < m) (sym e) (⊎_elim (λ free. absurd (had free)) (λ l. l) (A.each k low)))
+        (λ other. A.past j (omega arith) b)
+        (cases_eq j k);
+    each = A.each;
+    rest = A.rest;
+    groups = A.groups;
+    same = A.same;
+    apart = A.apart;
+    member = λ c h. let s = A.member c h in (s.0, omega (arith, s.1), s.2, s.3);
+    order = A.order;
+  }
+
+  -- item k has none, and opens class m with all that are like it
+  module _ (class class' : List ℕ) (members members' left left' : List Set) (m k own : ℕ) (A : Parted rows old n class members left m k)
+      (low : k < n) (is : own ≡ at old k) (free : at class k ≡ 128)
+      (placed : (j : ℕ) → In (set_at left own) j → Same (set_at rows j) (set_at rows k) → at class' j ≡ m)
+      (kept : (j : ℕ) → (In (set_at left own) j → Same (set_at rows j) (set_at rows k) → ⊥) → at class' j ≡ at class j)
+      (group' : (j : ℕ) → In (set_at members' m) j ↔ (In (set_at left own) j × Same (set_at rows j) (set_at rows k)))
+      (groups' : (c : ℕ) → (c ≡ m → ⊥) → set_at members' c ≡ set_at members c)
+      (rest' : (j : ℕ) → In (set_at left' own) j ↔ (In (set_at left own) j × (Same (set_at rows j) (set_at rows k) → ⊥)))
+      (rests' : (c : ℕ) → (c ≡ own → ⊥) → set_at left' c ≡ set_at left c) where
+    abbrev New : ℕ → Type 0
+    New j = In (set_at left own) j × Same (set_at rows j) (set_at rows k)
+
+    small : m < 128
+    small = let a = A.most in omega arith
+
+    which : (j : ℕ) → ((at class' j ≡ m) × New j) ⊎ ((at class' j ≡ at class j) × (New j → ⊥))
+    which j = ⊎_elim
+        (λ h. let p = (group' j).0 h in inl (placed j p.0 p.1, p))
+        (λ out. inr (kept j (λ a b. out ((group' j).1 (a, b))), λ p. out ((group' j).1 p)))
+        (in_dec (set_at members' m).bits j)
+
+    was : (j : ℕ) → New j → (j < n) × (at old j ≡ own) × (at class j ≡ 128)
+    was j p = (A.rest own j).0 p.0
+
+    first : New k
+    first = ((A.rest own k).1 (low, sym is, free), same_own (set_at rows k))
+
+    -- one that had a class has it still
+    aged : (j : ℕ) → at class j < m → at class' j ≡ at class j
+    aged j l = ⊎_elim (λ p. let w = (was j p.1).2 in let s = small in absurd (omega arith)) (λ p. p.0) (which j)
+
+    -- one that has a class is new in class m, or had it
+    now' : (j : ℕ) → j < n → at class' j < m + 1 → ((at class' j ≡ m) × New j) ⊎ ((at class' j ≡ at class j) × (at class j < m))
+    now' j h l = ⊎_elim
+        inl
+        (λ p. inr (p.0, ⊎_elim (λ e. let q = p.0 in let s = small in absurd (omega arith)) (λ b. b) (A.each j h)))
+        (which j)
+
+    still : (j : ℕ) → at class' j ≡ 128 → (at class j ≡ 128) × (New j → ⊥)
+    still j e = ⊎_elim (λ p. let q = p.0 in let s = small in absurd (omega arith)) (λ p. (sym p.0 ∙ e, p.1)) (which j)
+
+    pub parted_open : Parted rows old n class' members' left' (m + 1) (k + 1)
+    parted_open = record {
+      most = let a = A.most in omega arith;
+      past = λ j h b. ⊎_elim
+          (λ p. let q = p.0 in omega arith)
+          (λ p. ⊎_elim
+          (λ e. absurd (p.1 (subst New (sym e) first)))
+          (λ other. let q = p.0 in let r = A.past j (omega arith) b in omega arith)
+          (cases_eq j k))
+          (which j);
+      each = λ j b. ⊎_elim
+          (λ p. let q = p.0 in inr (omega arith))
+          (λ p. let q = p.0 in ⊎_elim (λ e. inl (q ∙ e)) (λ l. inr (omega arith)) (A.each j b))
+          (which j);
+      rest = λ c j. ⊎_elim
+          (λ e. subst (λ d. In (set_at left' d) j ↔ ((j < n) × (at old j ≡ d) × (at class' j ≡ 128))) (sym e) (
+            (λ h. let p = (rest' j).0 h in let w = (A.rest own j).0 p.0 in (w.0, w.1, kept j (λ _ s. p.1 s) ∙ w.2)),
+            (λ p. let o = still j p.2 in let g = (A.rest own j).1 (p.0, p.1, o.0) in (rest' j).1 (g, λ s. o.1 (g, s))),
+          ))
+          (λ other. subst (λ (x : Set). In x j ↔ ((j < n) × (at old j ≡ c) × (at class' j ≡ 128))) (sym (rests' c other)) (
+            (λ h. let w = (A.rest c j).0 h in (w.0, w.1, kept j (λ g s. other (sym w.1 ∙ ((A.rest own j).0 g).1)) ∙ w.2)),
+            (λ p. (A.rest c j).1 (p.0, p.1, (still j p.2).0)),
+          ))
+          (cases_eq c own);
+      groups = λ c j. ⊎_elim
+          (λ e. subst (λ d. In (set_at members' d) j ↔ ((j < n) × (at class' j ≡ d) × (d < m + 1))) (sym e) (
+            (λ h. let p = (group' j).0 h in ((was j p).0, placed j p.0 p.1, omega arith)),
+            (λ p. ⊎_elim
+                (λ q. (group' j).1 q.1)
+                (λ q. let a = q.0 in let b = q.1 in let o = p.1 in absurd (omega arith))
+                (now' j p.0 (let o = p.1 in omega arith))),
+          ))
+          (λ other. subst (λ (x : Set). In x j ↔ ((j < n) × (at class' j ≡ c) × (c < m + 1))) (sym (groups' c other)) (
+            (λ h.
+                let w = (A.groups c j).0 h in
+                let a = w.1 in
+                let b = w.2 in
+                (w.0, aged j (omega arith) ∙ a, omega arith)),
+            (λ p. ⊎_elim
+                (λ q. absurd (other (sym p.1 ∙ q.0)))
+                (λ q. let a = q.0 in let b = q.1 in let d = p.1 in (A.groups c j).1 (p.0, sym a ∙ d, omega arith))
+                (now' j p.0 (let a = p.1 in let b = p.2 in omega arith))),
+          ))
+          (cases_eq c m);
+      same = λ i j b d h l. ⊎_elim
+          (λ p. ⊎_elim
+          (λ q. (
+            (λ _. ((was i p.1).1 ∙ sym (was j q.1).1, λ c. ((λ x. (q.1.1 c).1 ((p.1.1 c).0 x)), (λ x. (p.1.1 c).1 ((q.1.1 c).0 x))))),
+            (λ _. p.0 ∙ sym q.0),
+          ))
+          (λ q. (
+            (λ e. let a = p.0 in let f = q.0 in let g = q.1 in absurd (omega arith)),
+            (λ s. absurd (A.apart j i d b q.1 (was i p.1).2 (sym s.0, λ c. ((s.1 c).1, (s.1 c).0)))),
+          ))
+          (now' j d l))
+          (λ p. ⊎_elim
+          (λ q. (
+            (λ e. let a = p.0 in let f = q.0 in let g = p.1 in absurd (omega arith)),
+            (λ s. absurd (A.apart i j b d p.1 (was j q.1).2 s)),
+          ))
+          (λ q. let s = A.same i j b d p.1 q.1 in ((λ e. s.0 (sym p.0 ∙ e ∙ q.0)), (λ e. p.0 ∙ s.1 e ∙ sym q.0)))
+          (now' j d l))
+          (now' i b h);
+      apart = λ i j b d h e s.
+          let o = still j e in ⊎_elim
+          (λ p. o.1 ((A.rest own j).1 (d, sym s.0 ∙ (was i p.1).1, o.0), λ c. ((λ x. (p.1.1 c).0 ((s.1 c).1 x)), (λ x. (s.1 c).0 ((p.1.1 c).1 x)))))
+          (λ p. A.apart i j b d p.1 o.0 s)
+          (now' i b h);
+      member = λ c h. ⊎_elim
+          (λ e. (k, omega arith, low, placed k first.0 first.1 ∙ sym e))
+          (λ other. let s = A.member c (omega arith) in let a = s.3 in (s.0, omega (arith, s.1), s.2, aged s.0 (omega arith) ∙ a))
+          (cases_eq c m);
+      order = λ s i b h l. ⊎_elim
+          (λ p.
+          let q = p.0 in
+          let t = A.member i (omega arith) in
+          let a = t.3 in
+          let late : s < k → ⊥ = λ o. let r = A.past s o b in let w = (was s p.1).2 in let z = small in omega arith in
+          (t.0, omega (arith, t.1), aged t.0 (omega arith) ∙ a))
+          (λ p. let q = p.0 in let f = p.1 in let t = A.order s i b f (omega arith) in let a = t.2 in (t.0, t.1, aged t.0 (omega arith) ∙ a))
+          (now' s b h);
+    }
+
+  -- all items have their class
+  module _ (class : List ℕ) (members left : List Set) (m : ℕ) (A : Parted rows old n class members left m n) where
+    pub parted_numbers : Numbering (Like rows old) n (at class) m
+    parted_numbers = record {
+      ranked = record {
+        below = λ s h. A.past s h h;
+        member = λ i h. let s = A.member i h in (s.0, s.2, s.3);
+        order = λ s i h l. A.order s i h (A.past s h h) l;
+      };
+      same = λ s t h l. A.same s t h l (A.past s h h) (A.past t l l);
+    }
+
+    pub parted_groups : Groups members class n
+    parted_groups = record {
+      low = λ k h. let l = A.past k h h in let a = A.most in omega arith;
+      each = λ c j. (
+        (λ h. let p = (A.groups c j).0 h in (p.0, p.1)),
+        (λ p. (A.groups c j).1 (p.0, p.1, subst (λ x. x < m) p.1 (A.past j p.0 p.0))),
+      );
+    }
+
+    pub parted_some : (c : ℕ) → c < m → (set_at members c).bits ≡ 0 → ⊥
+    parted_some c h e =
+        let s = A.member c h in
+        none_in s.0 (subst (λ (b : ℕ). On b s.0) e ((A.groups c s.0).1 (s.2, s.3, h)))

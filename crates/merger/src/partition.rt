@@ -1,6 +1,6 @@
 //! Items in classes: the states of a model in components, and the components in classes. The classes are numbered by first
 //! item: item 0 is in class 0, and each later item is in the class of an earlier one or opens the next.
-ghost use Rattle.std.specs.Prelude.{◌≡◌, ℕ, ◌+◌, ◌<◌, ◌≤◌, ◌↔◌, ◌≢◌, max, MatchOption};
+ghost use Rattle.std.specs.Prelude.{◌≡◌, ℕ, ◌+◌, ◌<◌, ◌≤◌, ◌↔◌, ◌≢◌, max};
 ghost use Rattle.sets.specs.Sets.{In};
 ghost use Rattle.kripke.specs.Numbering.{First, Ranked, Numbering};
 ghost use Rattle.merger.specs.Grids.{at, set_at, Groups, Several, Same, Like};
@@ -24,38 +24,94 @@ pub(crate) struct Partition {
     ghost some: { (c : ℕ) → c < classes → (set_at members c).bits ≢ 0 },
 }
 
-// The item in `heads` that has the row of item `k`, if there is one.
-fn find_like(heads: Set, rows: &[Set; 128], k: usize) -> Option<usize>
-    requires { k < 128 }
-    ensures { MatchOption result ((j : ℕ) → In heads j → Same (set_at rows.now j) (set_at rows.now k) → ⊥) (λ j. In heads j × Same (set_at rows.now j) (set_at rows.now k)) }
-{
-    heads.into_iter().find(|&j| rows[j].same(rows[k]))
+// The class of an item that has none yet.
+const OPEN: u8 = 128;
+
+// Items that are put into classes, old class by old class.
+#[derive(Drop)]
+struct Parting {
+    // of each item: its class, or OPEN
+    class: [u8; 128],
+    // of each class: its items
+    members: [Set; 128],
+    // of each old class: its items that are open
+    left: [Set; 128],
 }
 
-// The items below `len`, those together that are of one class and have the same row.
-// Kept: a table and a count, as in `numbered` and `by_rows`; the type of a slice has no bound of 128, so `few` would stay.
-fn part(rows: &[Set; 128], class: &[u8; 128], len: usize) -> Partition
-    requires few { len ≤ 128 }
-    requires low { (k : ℕ) → k < len → at class.now k < 128 }
-    ensures len { result.len ≡ len }
-    ensures numbers { Numbering (Like rows.now class.now) len (at result.class) result.classes }
+// Puts those of `group` that have the row of item `k` into class `c`. Answers the others.
+fn place(rows: &[Set; 128], group: Set, k: usize, class: &mut [u8; 128], c: usize) -> Set
+    requires { (k < 128) × (c < 128) }
+    ensures others { (j : ℕ) → In result j ↔ (In group j × (Same (set_at rows.now j) (set_at rows.now k) → ⊥)) }
+    ensures placed { (j : ℕ) → In group j → Same (set_at rows.now j) (set_at rows.now k) → at class.new j ≡ c }
+    ensures kept { (j : ℕ) → (In group j → Same (set_at rows.now j) (set_at rows.now k) → ⊥) → at class.new j ≡ at class.old j }
 {
-    let mut parted = Partition::new();
-    // of each old class: the first item of each new class in it
-    // Kept: a table of fixed size, since the libraries take no heap.
-    let mut heads = [Set::NONE; 128];
-    for (k, &own) in class[..len].iter().enumerate() {
-        let own = own as usize;
-        let into = match find_like(heads[own], rows, k) {
-            Some(j) => parted.class_of(j),
-            None => {
-                heads[own] = heads[own].with(k);
-                parted.classes()
-            }
-        };
-        parted.put(into);
+    let row = rows[k];
+    let mut others = Set::NONE;
+    for j in group {
+        if rows[j].same(row) {
+            class[j] = c as u8;
+        } else {
+            others = others.with(j);
+        }
     }
-    parted
+    others
+}
+
+impl Parting {
+    // Puts item `k`, which is open, into class `c`, with those of its old class `own` that are open and have its row.
+    fn open(&mut self, rows: &[Set; 128], k: usize, own: usize, c: usize)
+        requires low { (k < 128) × (own < 128) × (c < 128) }
+        requires own { In (set_at self.old.left own) k }
+        ensures placed { (j : ℕ) → In (set_at self.old.left own) j → Same (set_at rows.now j) (set_at rows.now k) → at self.new.class j ≡ c }
+        ensures kept { (j : ℕ) → (In (set_at self.old.left own) j → Same (set_at rows.now j) (set_at rows.now k) → ⊥) → at self.new.class j ≡ at self.old.class j }
+        ensures group { (j : ℕ) → In (set_at self.new.members c) j ↔ (In (set_at self.old.left own) j × Same (set_at rows.now j) (set_at rows.now k)) }
+        ensures groups { (d : ℕ) → d ≢ c → set_at self.new.members d ≡ set_at self.old.members d }
+        ensures rest { (j : ℕ) → In (set_at self.new.left own) j ↔ (In (set_at self.old.left own) j × (Same (set_at rows.now j) (set_at rows.now k) → ⊥)) }
+        ensures rests { (d : ℕ) → d ≢ own → set_at self.new.left d ≡ set_at self.old.left d }
+    {
+        let group = self.left[own];
+        if group.several() {
+            let others = place(rows, group, k, &mut self.class, c);
+            self.members[c] = group.minus(others);
+            self.left[own] = others;
+        } else {
+            // it is the last of its class, and need not be compared
+            self.class[k] = c as u8;
+            self.members[c] = group;
+            self.left[own] = Set::NONE;
+        }
+    }
+}
+
+// The items below `len`, those together that are of one old class and have the same row; `left` has the items of each old
+// class.
+// Kept: a table and a count, as in `numbered` and `by_rows`; the type of a slice has no bound of 128, so `few` would stay.
+fn part(rows: &[Set; 128], old: &[u8; 128], left: [Set; 128], len: usize) -> Partition
+    requires few { len ≤ 128 }
+    requires groups { Groups left old.now len }
+    ensures len { result.len ≡ len }
+    ensures numbers { Numbering (Like rows.now old.now) len (at result.class) result.classes }
+{
+    let mut parting = Parting {
+        class: [OPEN; 128],
+        members: [Set::NONE; 128],
+        left,
+    };
+    let mut classes = 0;
+    for (k, &own) in old[..len].iter().enumerate() {
+        if parting.class[k] == OPEN {
+            parting.open(rows, k, own as usize, classes);
+            classes += 1;
+        }
+    }
+    let class = parting.class;
+    let members = parting.members;
+    Partition {
+        len,
+        classes,
+        class,
+        members,
+    }
 }
 
 impl Partition {
@@ -92,7 +148,9 @@ impl Partition {
         ensures len { result.len ≡ len }
         ensures numbers { Numbering (λ j k. Same (set_at rows.now j) (set_at rows.now k)) len (at result.class) result.classes }
     {
-        part(rows, &[0; 128], len)
+        let mut left = [Set::NONE; 128];
+        left[0] = Set::below(len);
+        part(rows, &[0; 128], left, len)
     }
 
     // The same items, those of a class together that have the same row.
@@ -100,7 +158,7 @@ impl Partition {
         ensures len { result.len ≡ self.now.len }
         ensures numbers { Numbering (Like rows.now self.now.class) self.now.len (at result.class) result.classes }
     {
-        part(rows, &self.class, self.len)
+        part(rows, &self.class, self.members, self.len)
     }
 
     // Puts the next item into a class that there is, or into the next.

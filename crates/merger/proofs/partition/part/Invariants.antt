@@ -1,6 +1,5 @@
-use Rattle.std.proofs.Common.{◌≡◌, length}
-use Rattle.merger.proofs.Placing.{Placed}
+use Rattle.merger.proofs.Placing.{Parted}
 use Rattle.merger.proofs.partition.part.Given as goal
 
 abbrev pub invariant-loop-k : goal.invariant-loop-k
-invariant-loop-k l = (length l.heads ≡ 128) × Placed l.rows l.class l.parted l.heads l.k
+invariant-loop-k l = Parted l.rows l.old l.len l.parting.class l.parting.members l.parting.left l.classes l.k

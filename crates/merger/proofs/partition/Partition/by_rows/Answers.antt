@@ -1,11 +1,29 @@
-use Rattle.std.proofs.Common.{◌≡◌, replicate, sym, ◌∙◌, arith}
+use Rattle.std.proofs.Common.{◌≡◌, ℕ, ◌<◌, ◌↔◌, replicate, sym, ◌∙◌, subst, arith}
+use Rattle.std.proofs.lemmas.List.{length-replicate}
+use Rattle.sets.specs.declared.Set.{Set}
+use Rattle.sets.specs.Sets.{In, none}
+use Rattle.sets.proofs.Bits.{none_in}
 use Rattle.merger.specs.Grids.{at, set_at, Same, Like}
-use Rattle.merger.proofs.Blank.{blank}
+use Rattle.merger.proofs.Blank.{blank, after_set}
 use Rattle.merger.proofs.Advancing.{numbering_as}
 use Rattle.merger.proofs.partition.Partition.by_rows.Goals as goal
 
-pub part-requires-clause-low : goal.part-requires-clause-low
-part-requires-clause-low c k h = let z : at (replicate 128 0) k ≡ 0 = blank 128 k 0 in omega arith
+pub part-requires-clause-groups : goal.part-requires-clause-groups
+part-requires-clause-groups c =
+    let len = c.args.len in
+    let few = c.requires in
+    let zero : (k : ℕ) → at (replicate 128 0) k ≡ 0 = λ k. blank 128 k 0 in
+    record {
+      low = λ k h. let z = zero k in omega arith;
+      each = λ d k. after_set none (replicate 128 none) 0 c.below.result (omega (arith, length-replicate 128 none))
+          (λ i x. In x k ↔ ((k < len) × (at (replicate 128 0) k ≡ i)))
+          ((λ h. (((c.below.ensures k).0 h).0, zero k)), (λ p. let l = p.0 in (c.below.ensures k).1 (l, omega arith)))
+          (λ i other. (
+            (λ h. absurd (none_in k (subst (λ (x : Set). In x k) (blank 128 i none) h))),
+            (λ p. absurd (other (sym p.1 ∙ zero k))),
+          ))
+          d;
+    }
 
 pub returns-clause-numbers : goal.returns-clause-numbers
 returns-clause-numbers c =
