@@ -1,18 +1,11 @@
 -- What is in the sets of the components that a row marks, gathered along the row; and marks cleared.
-use Rattle.std.proofs.Common.{◌≡◌, ℕ, zero, suc, ◌+◌, ◌-◌, ◌*◌, ◌<◌, ◌≤◌, min, ◌⊎◌, ◌↔◌, Option, Some, List, [], ◌∷◌, ◌++◌, length, get_or, take, drop, set, Iter, Bor, sym, refl, ap, ◌∙◌, subst, inl, inr, ⊎_elim, arith}
+use Rattle.std.proofs.Common.{◌≡◌, ℕ, zero, suc, ◌+◌, ◌-◌, ◌*◌, ◌/◌, ◌<◌, ◌≤◌, ◌⊎◌, ◌↔◌, List, [], length, get_or, take, drop, set, sym, refl, ap, ◌∙◌, subst, inl, inr, ⊎_elim, arith}
 use Rattle.std.proofs.lemmas.Bool.{cases_eq, cases_lt}
-use Rattle.std.proofs.lemmas.List.{get_or-take, get_or-drop, get_or-set_other, length-take, length-append}
-use Rattle.std.proofs.lemmas.List.Edits.{get_or-between}
-use Rattle.std.proofs.lemmas.Slice.Zip.{zip_turn}
-use Rattle.std.proofs.lemmas.Iterator.{zips}
-use Rattle.std.proofs.lemmas.Fn.{fronts}
-use Rattle.std.specs.declared.iter.Zip.{Zip}
-use Rattle.std.specs.Iterator.{Yields}
-use Rattle.std.specs.Iterator.Adapters.{zip_first, zip_second}
-use Rattle.std.specs.Slice.Iter.{iter_rest}
+use Rattle.std.proofs.lemmas.List.{get_or-take, get_or-drop, get_or-set_other}
 use Rattle.std.specs.Simd.{first_chunks}
 use Rattle.sets.specs.declared.Set.{Set}
-use Rattle.sets.specs.Sets.{In, Splits}
+use Rattle.sets.specs.Sets.{In, none, Splits}
+use Rattle.sets.proofs.Bits.{On, none_in}
 use Rattle.merger.specs.Grids.{at, set_at}
 use Rattle.merger.proofs.Blank.{after_set}
 
@@ -34,80 +27,82 @@ in-chunk n (suc k) row (suc b) i h l = in-chunk n k (drop n row) b i (omega arit
 pub in_chunks : (n k m : ℕ) (row : List ℕ) (b i : ℕ) → b < m → b < k → i < n → at (get_or (take m (first_chunks n k row)) b []) i ≡ at row (b * n + i)
 in_chunks n k m row b i h l low = ap (λ x. at x i) (get_or-take m (first_chunks n k row) b [] h) ∙ in-chunk n k row b i l low
 
--- two lists are gone through side by side from place a up to b: the next pair
-pub pair_turn : {A B : Type 0} (ks : List A) (vs : List B) (a b : ℕ) (xs : List (Bor A × Bor B)) (s t u : Zip (Iter A) (Iter B)) (r : Option (Bor A × Bor B)) →
-    iter_rest (zip_first s) ≡ take (b - a) (drop a ks) → iter_rest (zip_second s) ≡ take (b - a) (drop a vs) → Yields (zips fronts fronts) s xs t →
-    (p : Bor A × Bor B) → r ≡ Some p → zips fronts fronts t r u → (d : A) (e : B) →
-    (get_or ks (a + length xs) d ≡ p.0.now) × (get_or vs (a + length xs) e ≡ p.1.now) × (a + length xs + 1 ≡ a + length (xs ++ p ∷ []))
-pair_turn ks vs a b xs s t u r first second y p is steps d e =
-    let z = zip_turn _ _ xs s t u r first second y p is steps in
-    let low : a + length xs < b = omega (arith, z.0, length-take (b - a) (drop a ks)) in (
-      sym (z.2 d ∙ get_or-between ks a b (length xs) d low),
-      sym (z.3 e ∙ get_or-between vs a b (length xs) e low),
-      omega (arith, length-append xs (p ∷ [])),
-    )
-
 -- all has what is in the sets of the marked components below n
-abbrev pub Gathered : Set → List ℕ → List Set → ℕ → ℕ → Type 0
-Gathered all row sets count n = (c : ℕ) → In all c ↔ ((l : ℕ) × (l < n) × (l < count) × (at row l ≡ 1) × In (set_at sets l) c)
+abbrev pub Gathered : Set → List ℕ → List Set → ℕ → Type 0
+Gathered all row sets n = (c : ℕ) → In all c ↔ ((l : ℕ) × (l < n) × (at row l ≡ 1) × In (set_at sets l) c)
 
--- after has what is in before, and in the sets of the components that are marked from one place up to another
-abbrev pub Added : Set → Set → List ℕ → List Set → ℕ → ℕ → Type 0
-Added before after row sets from n =
-    (c : ℕ) → In after c ↔ (In before c ⊎ ((l : ℕ) × (from ≤ l) × (l < n) × (at row l ≡ 1) × In (set_at sets l) c))
+module _ (row : List ℕ) (sets : List Set) where
+  -- after has what is in before, and in the sets of the components that are marked, of the eight from one place on
+  abbrev pub Added : Set → Set → ℕ → Type 0
+  Added before after from =
+      (c : ℕ) → In after c ↔ (In before c ⊎ ((l : ℕ) × (from ≤ l) × (l < from + 8) × (at row l ≡ 1) × In (set_at sets l) c))
 
-module _ (before : Set) (row : List ℕ) (sets : List Set) (from : ℕ) where
-  pub added_off : (more : Set) (n : ℕ) → Added before more row sets from n → (at row n ≡ 1 → ⊥) → Added before more row sets from (n + 1)
-  added_off more n A off c = (
-    (λ h. ⊎_elim inl (λ p. inr (p.0, p.1, omega (arith, p.2), p.3, p.4)) ((A c).0 h)),
-    (λ h. (A c).1 (⊎_elim inl
-        (λ p. ⊎_elim
-        (λ same. absurd (off (subst (λ i. at row i ≡ 1) same p.3)))
-        (λ other. inr (p.0, p.1, omega (arith, p.2, other), p.3, p.4))
-        (cases_eq p.0 n))
-        h)),
-  )
+  pub gathered_none : Gathered none row sets 0
+  gathered_none c = ((λ h. absurd (none_in c h)), (λ p. absurd (omega (arith, p.1))))
 
-  pub added_on : (more more' : Set) (n : ℕ) → Added before more row sets from n → from ≤ n → at row n ≡ 1 →
-      ((c : ℕ) → In more' c ↔ (In more c ⊎ In (set_at sets n) c)) → Added before more' row sets from (n + 1)
-  added_on more more' n A up on joined c = (
+  pub gathered_more : (all all' : Set) (n : ℕ) → Gathered all row sets n → Added all all' n → Gathered all' row sets (n + 8)
+  gathered_more all all' n G A c = (
     (λ h. ⊎_elim
-        (λ was. ⊎_elim inl (λ p. inr (p.0, p.1, omega (arith, p.2), p.3, p.4)) ((A c).0 was))
-        (λ new. inr (n, up, omega arith, on, new))
-        ((joined c).0 h)),
-    (λ h. (joined c).1 (⊎_elim
-        (λ was. inl ((A c).1 (inl was)))
-        (λ p. ⊎_elim
-        (λ same. inr (subst (λ i. In (set_at sets i) c) same p.4))
-        (λ other. inl ((A c).1 (inr (p.0, p.1, omega (arith, p.2, other), p.3, p.4))))
-        (cases_eq p.0 n))
-        h)),
-  )
-
-module _ (row : List ℕ) (sets : List Set) (count : ℕ) where
-  -- d more places without a mark
-  pub gathered_past : (all : Set) (n d : ℕ) → Gathered all row sets count n → ((j : ℕ) → n ≤ j → j < n + d → at row j ≡ 1 → ⊥) →
-      Gathered all row sets count (n + d)
-  gathered_past all n d G clear c = (
-    (λ h. let p = (G c).0 h in (p.0, omega (arith, p.1), p.2, p.3, p.4)),
-    (λ p. ⊎_elim
-        (λ low. (G c).1 (p.0, low, p.2, p.3, p.4))
-        (λ past. absurd (clear p.0 past p.1 p.3))
-        (cases_lt p.0 n)),
-  )
-
-  -- a few more places, of which those below the count were looked at
-  pub gathered_more : (all all' : Set) (n d : ℕ) → Gathered all row sets count n → Added all all' row sets n (min count (n + d)) → Gathered all' row sets count (n + d)
-  gathered_more all all' n d G A c = (
-    (λ h. ⊎_elim
-        (λ was. let p = (G c).0 was in (p.0, omega (arith, p.1), p.2, p.3, p.4))
-        (λ p. (p.0, omega (arith, p.2), omega (arith, p.2), p.3, p.4))
+        (λ was. let p = (G c).0 was in (p.0, omega (arith, p.1), p.2, p.3))
+        (λ p. (p.0, p.2, p.3, p.4))
         ((A c).0 h)),
     (λ p. (A c).1 (⊎_elim
-        (λ low. inl ((G c).1 (p.0, low, p.2, p.3, p.4)))
-        (λ past. inr (p.0, past, omega (arith, p.1, p.2), p.3, p.4))
+        (λ low. inl ((G c).1 (p.0, low, p.2, p.3)))
+        (λ past. inr (p.0, past, p.1, p.2, p.3))
         (cases_lt p.0 n))),
   )
+
+  -- the sets of the eight whose bit is no more in left are added
+  pub record Adding (before after : Set) (from left : ℕ) : Type 0 where
+    pub grows : (c : ℕ) → In before c → In after c
+    pub sound : (c : ℕ) → In after c → In before c ⊎ ((l : ℕ) × (from ≤ l) × (l < from + 8) × (at row l ≡ 1) × In (set_at sets l) c)
+    pub whole : (i : ℕ) → i < 8 → at row (from + i) ≡ 1 → On left (8 * i) ⊎ ((c : ℕ) → In (set_at sets (from + i)) c → In after c)
+
+  pub adding_none : (before : Set) (from word : ℕ) → ((i : ℕ) → i < 8 → at row (from + i) ≡ 1 → On word (8 * i)) → Adding before before from word
+  adding_none before from word marks = record { grows = λ c h. h; sound = λ c h. inl h; whole = λ i h e. inl (marks i h e) }
+
+  pub adding_all : (before after : Set) (from : ℕ) → Adding before after from 0 → Added before after from
+  adding_all before after from A c = (
+    A.sound c,
+    λ h. ⊎_elim
+        (A.grows c)
+        (λ p.
+        let e : from + (p.0 - from) ≡ p.0 = omega (arith, p.1) in
+        ⊎_elim
+        (λ on. absurd (none_in (8 * (p.0 - from)) on))
+        (λ within. within c (subst (λ l. In (set_at sets l) c) (sym e) p.4))
+        (A.whole (p.0 - from) (omega (arith, p.1, p.2)) (subst (λ l. at row l ≡ 1) (sym e) p.3)))
+        h,
+  )
+
+  -- bit p, of the component at place l, goes
+  module _ (before after : Set) (from left left' p l : ℕ) (A : Adding before after from left) (small : p < 64) (is : l ≡ from + p / 8)
+      (others : (j : ℕ) → On left j → (j ≡ p → ⊥) → On left' j) where
+    pub adding_off : (at row l ≡ 1 → ⊥) → Adding before after from left'
+    adding_off off = record {
+      grows = A.grows;
+      sound = A.sound;
+      whole = λ i h e. ⊎_elim
+          (λ on. ⊎_elim
+          (λ same. let here : from + i ≡ l = omega arith in absurd (off (subst (λ j. at row j ≡ 1) here e)))
+          (λ other. inl (others (8 * i) on other))
+          (cases_eq (8 * i) p))
+          inr
+          (A.whole i h e);
+    }
+
+    pub adding_on : (more : Set) → at row l ≡ 1 → ((c : ℕ) → In more c ↔ (In after c ⊎ In (set_at sets l) c)) → Adding before more from left'
+    adding_on more on joined = record {
+      grows = λ c h. (joined c).1 (inl (A.grows c h));
+      sound = λ c h. ⊎_elim (A.sound c) (λ new. inr (l, omega arith, omega arith, on, new)) ((joined c).0 h);
+      whole = λ i h e. ⊎_elim
+          (λ on. ⊎_elim
+          (λ same. let here : from + i ≡ l = omega arith in inr (λ c q. (joined c).1 (inr (subst (λ j. In (set_at sets j) c) here q))))
+          (λ other. inl (others (8 * i) on other))
+          (cases_eq (8 * i) p))
+          (λ within. inr (λ c q. (joined c).1 (inl (within c q))))
+          (A.whole i h e);
+    }
 
 -- the marks below n that Stays lets be are left, and those from n up are as they were
 pub record Sifted (row row' : List ℕ) (Stays : ℕ → Type 0) (n : ℕ) : Type 0 where

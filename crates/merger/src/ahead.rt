@@ -1,6 +1,6 @@
 //! Where the components go: the classes that are one move ahead of what each of them reaches.
 ghost use Rattle.std.specs.Prelude.{◌≡◌, ℕ, ◌<◌, true, ◌⊎◌, ◌↔◌};
-ghost use Rattle.sets.specs.Sets.{In};
+ghost use Rattle.sets.specs.Sets.{In, none};
 ghost use Rattle.merger.specs.Grids.{at, set_at, Ahead};
 ghost use Rattle.merger.specs.Reaching.{On, Outlooks};
 
@@ -18,11 +18,12 @@ fn ahead(moves: Set, classes: &Partition, from: usize) -> Set
     classes.classes_of(moves.minus(classes.mates_of(from)))
 }
 
-// For each component in `wanted`, the classes one move ahead of it.
+// For each component in `wanted`, the classes one move ahead of it; nothing for the others.
 fn all_ahead(moves: &[Set; 128], classes: &Partition, wanted: Set) -> [Set; 128]
     requires wanted { (k : ℕ) → In wanted k → k < classes.now.len }
     requires inside { (k : ℕ) → In wanted k → (to : ℕ) → In (set_at moves.now k) to → to < classes.now.len }
-    ensures { (k : ℕ) → In wanted k → (c : ℕ) → In (set_at result k) c ↔ Ahead (In (set_at moves.now k)) (at classes.now.class) k c }
+    ensures wanted { (k : ℕ) → In wanted k → (c : ℕ) → In (set_at result k) c ↔ Ahead (In (set_at moves.now k)) (at classes.now.class) k c }
+    ensures others { (k : ℕ) → (In wanted k → ⊥) → set_at result k ≡ none }
 {
     table(Set::NONE, wanted, |k| ahead(moves[k], classes, k))
 }

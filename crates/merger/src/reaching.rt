@@ -1,6 +1,6 @@
 //! What each component reaches inside its class: written, looked over and narrowed.
-ghost use Rattle.std.specs.Prelude.{◌≡◌, ℕ, ◌+◌, ◌<◌, ◌≤◌, ◌⊎◌, ◌↔◌, [], Decides, slice_index_or};
-ghost use Rattle.sets.specs.Sets.{In};
+ghost use Rattle.std.specs.Prelude.{◌≡◌, ℕ, ◌+◌, ◌<◌, ◌≤◌, ◌*◌, ◌⊎◌, ◌↔◌, [], slice_index_or};
+ghost use Rattle.sets.specs.Sets.{bit, In, none};
 ghost use Rattle.merger.specs.Grids.{at, set_at};
 ghost use Rattle.merger.specs.Reaching.{On, Narrowed};
 
@@ -9,25 +9,30 @@ use crate::reach::Reach;
 use crate::tables::write;
 use sets::Set;
 
-// Whether eight marks are all clear.
-fn is_clear(eight: &[u8; 8]) -> bool
-    ensures { Decides result ((j : ℕ) → j < 8 → at eight.now j ≡ 0) }
+// Eight marks as one number. The lowest bit of its first byte is set if the first is a mark, and so on.
+fn word_of(eight: &[u8; 8]) -> u64
+    ensures { (i : ℕ) → i < 8 → at eight.now i ≡ 1 → bit result (8 * i) ≡ 1 }
 {
     // one load
-    u64::from_le_bytes(*eight) == 0
+    u64::from_le_bytes(*eight)
 }
 
-// What is in `all`, or in the set of some component that the row marks, from `from` up to `end`.
-// Kept: tables with two places; with eight marks and a slice of sets, rounds took 6 to 13 in a hundred more instructions.
-fn union_between(row: &[u8; 128], sets: &[Set; 128], from: usize, end: usize, all: Set) -> Set
-    requires { (from ≤ end) × (end ≤ 128) }
-    ensures { (c : ℕ) → In result c ↔ (In all c ⊎ ((l : ℕ) × (from ≤ l) × (l < end) × (at row.now l ≡ 1) × In (set_at sets.now l) c)) }
+// What is in `all`, or in the set of some component that the row marks, of the eight from `from` on, whose marks `word` has.
+// Kept: a bit of the word leads to the next mark; where each of the eight was asked, random models took a sixth more in all.
+fn union_eight(row: &[u8; 128], sets: &[Set; 128], from: usize, word: u64, all: Set) -> Set
+    requires room { from + 8 ≤ 128 }
+    requires marks { (i : ℕ) → i < 8 → at row.now (from + i) ≡ 1 → bit word (8 * i) ≡ 1 }
+    ensures { (c : ℕ) → In result c ↔ (In all c ⊎ ((l : ℕ) × (from ≤ l) × (l < from + 8) × (at row.now l ≡ 1) × In (set_at sets.now l) c)) }
 {
     let mut more = all;
-    for (mark, set) in row[from..end].iter().zip(&sets[from..end]) {
-        if *mark == 1 {
-            more = more.or(*set);
+    let mut left = word;
+    while left != 0 {
+        let l = from + left.trailing_zeros() as usize / 8;
+        if row[l] == 1 {
+            more = more.or(sets[l]);
         }
+        // without its lowest bit
+        left &= left - 1;
     }
     more
 }
@@ -72,20 +77,17 @@ impl Reach {
         self.still
     }
 
-    // What is in the set of some of the components in classes that component `k` reaches.
+    // What is in the set of some of the components in classes that component `k` reaches. The other sets have nothing.
     pub(crate) fn union(&self, k: usize, sets: &[Set; 128], classes: &Partition) -> Set
-        requires { k < classes.now.len }
+        requires component { k < classes.now.len }
+        requires others { (l : ℕ) → classes.now.len ≤ l → set_at sets.now l ≡ none }
         ensures { (c : ℕ) → In result c ↔ ((l : ℕ) × (l < classes.now.len) × On self.now k l × In (set_at sets.now l) c) }
     {
-        let count = classes.len();
         let row = &self.rows[k];
         let mut all = Set::NONE;
         let (eights, _) = row.as_chunks::<8>();
-        for (block, eight) in eights[..count.div_ceil(8)].iter().enumerate() {
-            if !is_clear(eight) {
-                let from = block * 8;
-                all = union_between(row, sets, from, count.min(from + 8), all);
-            }
+        for (block, eight) in eights[..classes.len().div_ceil(8)].iter().enumerate() {
+            all = union_eight(row, sets, block * 8, word_of(eight), all);
         }
         all
     }

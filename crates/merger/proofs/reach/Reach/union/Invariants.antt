@@ -3,4 +3,4 @@ use Rattle.merger.proofs.Gathering.{Gathered}
 use Rattle.merger.proofs.reach.Reach.union.Given as goal
 
 abbrev pub invariant-loop-block : goal.invariant-loop-block
-invariant-loop-block l = Gathered l.all (get_or l.self.rows l.k []) l.sets l.count (l.block * 8)
+invariant-loop-block l = Gathered l.all (get_or l.self.rows l.k []) l.sets (l.block * 8)
