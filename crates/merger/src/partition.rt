@@ -1,6 +1,6 @@
 //! Items in classes: the states of a model in components, and the components in classes. The classes are numbered by first
 //! item: item 0 is in class 0, and each later item is in the class of an earlier one or opens the next.
-ghost use Rattle.std.specs.Prelude.{◌≡◌, ℕ, ◌+◌, ◌<◌, ◌≤◌, ◌↔◌, ◌≢◌, max};
+ghost use Rattle.std.specs.Prelude.{◌≡◌, ℕ, ◌+◌, ◌<◌, ◌≤◌, ◌↔◌, ◌≢◌, max, MatchOption};
 ghost use Rattle.sets.specs.Sets.{In};
 ghost use Rattle.kripke.specs.Numbering.{First, Ranked, Numbering};
 ghost use Rattle.merger.specs.Grids.{at, set_at, Groups, Several, Same, Like};
@@ -22,6 +22,14 @@ pub(crate) struct Partition {
     ghost groups: { Groups members class len },
     ghost low: { (k : ℕ) → k < len → at class k < classes },
     ghost some: { (c : ℕ) → c < classes → (set_at members c).bits ≢ 0 },
+}
+
+// The first item that has the row of item `k`, of those before it.
+fn first_like(rows: &[Set; 128], k: usize) -> Option<usize>
+    requires { k < 128 }
+    ensures { MatchOption result ((j : ℕ) → j < k → Same (set_at rows.now j) (set_at rows.now k) → ⊥) (λ j. (j < k) × Same (set_at rows.now j) (set_at rows.now k)) }
+{
+    rows[..k].iter().position(|row| row.same(rows[k]))
 }
 
 // The class of an item that has none yet.
@@ -148,9 +156,15 @@ impl Partition {
         ensures len { result.len ≡ len }
         ensures numbers { Numbering (λ j k. Same (set_at rows.now j) (set_at rows.now k)) len (at result.class) result.classes }
     {
-        let mut left = [Set::NONE; 128];
-        left[0] = Set::below(len);
-        part(rows, &[0; 128], left, len)
+        let mut parted = Partition::new();
+        for k in 0..len {
+            let into = match first_like(rows, k) {
+                Some(j) => parted.class_of(j),
+                None => parted.classes(),
+            };
+            parted.put(into);
+        }
+        parted
     }
 
     // The same items, those of a class together that have the same row.

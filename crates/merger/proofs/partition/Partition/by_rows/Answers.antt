@@ -1,33 +1,22 @@
-use Rattle.std.proofs.Common.{◌≡◌, ℕ, ◌<◌, ◌↔◌, replicate, sym, ◌∙◌, subst, arith}
-use Rattle.std.proofs.lemmas.List.{length-replicate}
-use Rattle.sets.specs.declared.Set.{Set}
-use Rattle.sets.specs.Sets.{In, none}
-use Rattle.sets.proofs.Bits.{none_in}
-use Rattle.merger.specs.Grids.{at, set_at, Same, Like}
-use Rattle.merger.proofs.Blank.{blank, after_set}
-use Rattle.merger.proofs.Advancing.{numbering_as}
+use Rattle.std.proofs.Common.{◌∙◌, arith}
+use Rattle.merger.specs.declared.partition.Partition.{Partition}
+use Rattle.merger.proofs.Placing.{row_old, row_new}
 use Rattle.merger.proofs.partition.Partition.by_rows.Goals as goal
+use Rattle.merger.proofs.partition.Partition.by_rows.Goals.{in-Some, in-None}
 
-pub part-requires-clause-groups : goal.part-requires-clause-groups
-part-requires-clause-groups c =
-    let len = c.args.len in
-    let few = c.requires in
-    let zero : (k : ℕ) → at (replicate 128 0) k ≡ 0 = λ k. blank 128 k 0 in
-    record {
-      low = λ k h. let z = zero k in omega arith;
-      each = λ d k. after_set none (replicate 128 none) 0 c.below.result (omega (arith, length-replicate 128 none))
-          (λ i x. In x k ↔ ((k < len) × (at (replicate 128 0) k ≡ i)))
-          ((λ h. (((c.below.ensures k).0 h).0, zero k)), (λ p. let l = p.0 in (c.below.ensures k).1 (l, omega arith)))
-          (λ i other. (
-            (λ h. absurd (none_in k (subst (λ (x : Set). In x k) (blank 128 i none) h))),
-            (λ p. absurd (other (sym p.1 ∙ zero k))),
-          ))
-          d;
-    }
-
-pub returns-clause-numbers : goal.returns-clause-numbers
-returns-clause-numbers c =
+pub loop-k-preserved : goal.loop-k-preserved
+loop-k-preserved c =
     let rows = c.args.rows.now in
-    numbering_as (Like rows (replicate 128 0)) (λ j k. Same (set_at rows j) (set_at rows k)) c.args.len _ _
-    (λ j k h l. ((λ p. p.1), (λ s. (blank 128 j 0 ∙ sym (blank 128 k 0), s))))
-    c.part.ensures.numbers
+    let P : Partition = c.loop-k.parted in
+    let P' : Partition = c.put.new.self in
+    let k = c.loop-k.k in
+    let i = c.loop-k.invariant in
+    let m = c.match-first_like in
+    let e = c.put.ensures in
+    record {
+      items = let items = i.items in let len = e.len in omega arith;
+      numbers = elim m.branch [
+        | in-Some w ↦ row_old rows P P' k m.into i.items i.numbers e.classes e.last e.others w.in-Some.j w.in-Some.ensures.0 w.in-Some.ensures.1 (w.into-is ∙ w.class_of-into.ensures)
+        | in-None w ↦ row_new rows P P' k m.into i.items i.numbers e.classes e.last e.others w.in-None.ensures (w.into-is ∙ w.classes-into.ensures)
+      ];
+    }
