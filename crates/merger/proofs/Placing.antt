@@ -3,10 +3,10 @@ use Rattle.std.proofs.Common.{◌≡◌, ℕ, ◌+◌, ◌<◌, ◌≤◌, ◌�
 use Rattle.std.specs.Prelude.{MatchOption}
 use Rattle.std.specs.List.{AllWithin, HoldsAt}
 use Rattle.std.proofs.lemmas.Bool.{cases_eq}
-use Rattle.std.proofs.lemmas.List.{length-take, get_or-take}
+use Rattle.std.proofs.lemmas.List.{length-take, get_or-take, get_or-set_same, get_or-set_other}
 use Rattle.sets.specs.declared.Set.{Set}
 use Rattle.sets.specs.Sets.{In, none, Splits}
-use Rattle.sets.proofs.Bits.{On, in_dec, none_in}
+use Rattle.sets.proofs.Bits.{in_dec, none_in}
 use Rattle.kripke.specs.Numbering.{Numbering}
 use Rattle.kripke.proofs.Numbering.{number_old, number_new}
 use Rattle.merger.specs.declared.partition.Partition.{Partition}
@@ -298,6 +298,29 @@ module _ (rows : List Set) (old : List ℕ) (n : ℕ) (few : n ≤ 128) where
           (now' s b h);
     }
 
+  -- the same, where x is the new class, and y is what is left of the old one
+  pub parted_put : (class class' : List ℕ) (members left : List Set) (m k own : ℕ) (x y : Set) → Parted rows old n class members left m k →
+      k < n → own ≡ at old k → own < length left → m < length members → at class k ≡ 128 →
+      ((j : ℕ) → In (set_at left own) j → Same (set_at rows j) (set_at rows k) → at class' j ≡ m) →
+      ((j : ℕ) → (In (set_at left own) j → Same (set_at rows j) (set_at rows k) → ⊥) → at class' j ≡ at class j) →
+      ((j : ℕ) → In x j ↔ (In (set_at left own) j × Same (set_at rows j) (set_at rows k))) →
+      ((j : ℕ) → In y j ↔ (In (set_at left own) j × (Same (set_at rows j) (set_at rows k) → ⊥))) →
+      Parted rows old n class' (set members m x) (set left own y) (m + 1) (k + 1)
+  parted_put class class' members left m k own x y A low is wide tall free placed kept group rest =
+      parted_open class class' members (set members m x) left (set left own y) m k own A low is free placed kept
+      (λ j. subst (λ (z : Set). In z j ↔ (In (set_at left own) j × Same (set_at rows j) (set_at rows k))) (sym (get_or-set_same members m x none tall)) (group j))
+      (λ c other. get_or-set_other members m c x none other)
+      (λ j. subst (λ (z : Set). In z j ↔ (In (set_at left own) j × (Same (set_at rows j) (set_at rows k) → ⊥))) (sym (get_or-set_same left own y none wide)) (rest j))
+      (λ c other. get_or-set_other left own c y none other)
+
+  pub parted_is : (class class' : List ℕ) (members members' left left' : List Set) (m m' k : ℕ) → class' ≡ class → members' ≡ members → left' ≡ left → m' ≡ m →
+      Parted rows old n class members left m k → Parted rows old n class' members' left' m' k
+  parted_is class class' members members' left left' m m' k c g l e A =
+      subst (λ x. Parted rows old n x members' left' m' k) (sym c)
+      (subst (λ x. Parted rows old n class x left' m' k) (sym g)
+      (subst (λ x. Parted rows old n class members x m' k) (sym l)
+      (subst (λ x. Parted rows old n class members left x k) (sym e) A)))
+
   -- all items have their class
   module _ (class : List ℕ) (members left : List Set) (m : ℕ) (A : Parted rows old n class members left m n) where
     pub parted_numbers : Numbering (Like rows old) n (at class) m
@@ -319,7 +342,5 @@ module _ (rows : List Set) (old : List ℕ) (n : ℕ) (few : n ≤ 128) where
       );
     }
 
-    pub parted_some : (c : ℕ) → c < m → (set_at members c).bits ≡ 0 → ⊥
-    parted_some c h e =
-        let s = A.member c h in
-        none_in s.0 (subst (λ (b : ℕ). On b s.0) e ((A.groups c s.0).1 (s.2, s.3, h)))
+    pub parted_spent : (c j : ℕ) → In (set_at left c) j → ⊥
+    parted_spent c j h = let p = (A.rest c j).0 h in let l = A.past j p.0 p.0 in let a = A.most in let e = p.2 in omega arith

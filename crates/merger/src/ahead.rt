@@ -1,12 +1,12 @@
 //! Where the components go: the classes that are one move ahead of what each of them reaches.
-ghost use Rattle.std.specs.Prelude.{◌≡◌, ℕ, ◌<◌, true, ◌⊎◌, ◌↔◌};
+ghost use Rattle.std.specs.Prelude.{◌≡◌, ℕ, ◌<◌, ◌≤◌, ◌↔◌};
 ghost use Rattle.sets.specs.Sets.{In, none};
 ghost use Rattle.merger.specs.Grids.{at, set_at, Ahead};
 ghost use Rattle.merger.specs.Reaching.{On, Outlooks};
 
 use crate::partition::Partition;
 use crate::reach::Reach;
-use crate::tables::{table, write};
+use crate::tables::write;
 use sets::Set;
 
 // The classes one move ahead of component `from`: other classes, and its own where the component is cyclic.
@@ -18,33 +18,53 @@ fn ahead(moves: Set, classes: &Partition, from: usize) -> Set
     classes.classes_of(moves.minus(classes.mates_of(from)))
 }
 
-// For each component in `wanted`, the classes one move ahead of it; nothing for the others.
-fn all_ahead(moves: &[Set; 128], classes: &Partition, wanted: Set) -> [Set; 128]
+// Writes, for each component in `wanted`, the classes one move ahead of it; nothing for the others.
+fn write_ahead(moves: &[Set; 128], classes: &Partition, wanted: Set, rows: &mut [Set; 128])
     requires wanted { (k : ℕ) → In wanted k → k < classes.now.len }
     requires inside { (k : ℕ) → In wanted k → (to : ℕ) → In (set_at moves.now k) to → to < classes.now.len }
-    ensures wanted { (k : ℕ) → In wanted k → (c : ℕ) → In (set_at result k) c ↔ Ahead (In (set_at moves.now k)) (at classes.now.class) k c }
-    ensures others { (k : ℕ) → (In wanted k → ⊥) → set_at result k ≡ none }
+    ensures wanted { (k : ℕ) → In wanted k → (c : ℕ) → In (set_at rows.new k) c ↔ Ahead (In (set_at moves.now k)) (at classes.now.class) k c }
+    ensures others { (k : ℕ) → (In wanted k → ⊥) → set_at rows.new k ≡ none }
 {
-    table(Set::NONE, wanted, |k| ahead(moves[k], classes, k))
+    *rows = [Set::NONE; 128];
+    write(rows, wanted, |k| ahead(moves[k], classes, k));
 }
 
-// For each component in `wanted`, the classes one move ahead of what it reaches. What is reached from there is wanted too.
-pub(crate) fn outlooks(
+// Writes, for each component in `places`, what `ahead` has for the components that it reaches, and leaves the others.
+fn write_unions(
+    reach: &Reach,
+    classes: &Partition,
+    ahead: &[Set; 128],
+    places: Set,
+    rows: &mut [Set; 128],
+)
+    requires places { (k : ℕ) → In places k → k < classes.now.len }
+    requires others { (l : ℕ) → classes.now.len ≤ l → set_at ahead.now l ≡ none }
+    ensures made { (k : ℕ) → In places k → (c : ℕ) → In (set_at rows.new k) c ↔ ((l : ℕ) × (l < classes.now.len) × On reach.now k l × In (set_at ahead.now l) c) }
+    ensures others { (k : ℕ) → (In places k → ⊥) → set_at rows.new k ≡ set_at rows.old k }
+{
+    write(rows, places, |k| reach.union(k, ahead, classes));
+}
+
+// Writes, for each component in `wanted`, the classes one move ahead of what it reaches; nothing for the others. What is
+// reached from `wanted` is wanted too.
+// Kept: rows are written in place, since a table that is handed out is copied.
+pub(crate) fn write_outlooks(
     reach: &Reach,
     moves: &[Set; 128],
     classes: &Partition,
     wanted: Set,
-) -> [Set; 128]
+    rows: &mut [Set; 128],
+)
     requires wanted { (k : ℕ) → In wanted k → k < classes.now.len }
     requires inside { (k : ℕ) → In wanted k → (to : ℕ) → In (set_at moves.now k) to → to < classes.now.len }
     requires closed { (k l : ℕ) → In wanted k → l < classes.now.len → On reach.now k l → In wanted l }
-    ensures { Outlooks result reach.now moves.now classes.now wanted }
+    ensures { Outlooks rows.new reach.now moves.now classes.now wanted }
 {
-    let ahead = all_ahead(moves, classes, wanted);
+    write_ahead(moves, classes, wanted, rows);
     // one that reaches only itself sees what is ahead of it
-    let mut rows = ahead;
-    write(&mut rows, wanted.minus(reach.still()), |k| {
-        reach.union(k, &ahead, classes)
-    });
-    rows
+    let far = wanted.minus(reach.still());
+    if !far.same(Set::NONE) {
+        let ahead = *rows;
+        write_unions(reach, classes, &ahead, far, rows);
+    }
 }

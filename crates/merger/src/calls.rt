@@ -5,7 +5,7 @@ ghost use Rattle.kripke.specs.Models.{Kripke};
 ghost use Rattle.merger.specs.Calls.{Analysed, OpenAnswer, RoundAnswer, RunAnswer, ClassAnswer, TogetherAnswer, ReducedAnswer, SummaryAnswer};
 
 use crate::advance::advance;
-use crate::ahead::outlooks;
+use crate::ahead::write_outlooks;
 use crate::analysis::Analysis;
 use crate::answers::{Made, OpenRefusal, Opened, Ran, Refusal, Summary};
 use crate::filling::reduce;
@@ -169,11 +169,13 @@ impl Analysis {
         if !self.rounds.settled {
             return Err(Refusal::NotSettled);
         }
-        let rows = outlooks(
+        let mut rows = [Set::NONE; 128];
+        write_outlooks(
             &self.rounds.reach,
             &self.found.moves,
             &self.rounds.partition,
             Set::below(self.found.components),
+            &mut rows,
         );
         *out = reduce(&self.found, &self.rounds, &rows);
         Ok(())

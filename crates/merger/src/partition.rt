@@ -35,17 +35,6 @@ fn first_like(rows: &[Set; 128], k: usize) -> Option<usize>
 // The class of an item that has none yet.
 const OPEN: u8 = 128;
 
-// Items that are put into classes, old class by old class.
-#[derive(Drop)]
-struct Parting {
-    // of each item: its class, or OPEN
-    class: [u8; 128],
-    // of each class: its items
-    members: [Set; 128],
-    // of each old class: its items that are open
-    left: [Set; 128],
-}
-
 // Puts those of `group` that have the row of item `k` into class `c`. Answers the others.
 fn place(rows: &[Set; 128], group: Set, k: usize, class: &mut [u8; 128], c: usize) -> Set
     requires { (k < 128) × (c < 128) }
@@ -65,61 +54,56 @@ fn place(rows: &[Set; 128], group: Set, k: usize, class: &mut [u8; 128], c: usiz
     others
 }
 
-impl Parting {
-    // Puts item `k`, which is open, into class `c`, with those of its old class `own` that are open and have its row.
-    fn open(&mut self, rows: &[Set; 128], k: usize, own: usize, c: usize)
-        requires low { (k < 128) × (own < 128) × (c < 128) }
-        requires own { In (set_at self.old.left own) k }
-        ensures placed { (j : ℕ) → In (set_at self.old.left own) j → Same (set_at rows.now j) (set_at rows.now k) → at self.new.class j ≡ c }
-        ensures kept { (j : ℕ) → (In (set_at self.old.left own) j → Same (set_at rows.now j) (set_at rows.now k) → ⊥) → at self.new.class j ≡ at self.old.class j }
-        ensures group { (j : ℕ) → In (set_at self.new.members c) j ↔ (In (set_at self.old.left own) j × Same (set_at rows.now j) (set_at rows.now k)) }
-        ensures groups { (d : ℕ) → d ≢ c → set_at self.new.members d ≡ set_at self.old.members d }
-        ensures rest { (j : ℕ) → In (set_at self.new.left own) j ↔ (In (set_at self.old.left own) j × (Same (set_at rows.now j) (set_at rows.now k) → ⊥)) }
-        ensures rests { (d : ℕ) → d ≢ own → set_at self.new.left d ≡ set_at self.old.left d }
-    {
-        let group = self.left[own];
-        if group.several() {
-            let others = place(rows, group, k, &mut self.class, c);
-            self.members[c] = group.minus(others);
-            self.left[own] = others;
-        } else {
-            // it is the last of its class, and need not be compared
-            self.class[k] = c as u8;
-            self.members[c] = group;
-            self.left[own] = Set::NONE;
-        }
+// Puts item `k`, which is open, into class `c`, with those of `left` that have its row; `left` has the open items of its old
+// class. Answers those that are put.
+fn open(rows: &[Set; 128], k: usize, left: &mut Set, class: &mut [u8; 128], c: usize) -> Set
+    requires low { (k < 128) × (c < 128) }
+    requires own { In left.old k }
+    ensures group { (j : ℕ) → In result j ↔ (In left.old j × Same (set_at rows.now j) (set_at rows.now k)) }
+    ensures rest { (j : ℕ) → In left.new j ↔ (In left.old j × (Same (set_at rows.now j) (set_at rows.now k) → ⊥)) }
+    ensures placed { (j : ℕ) → In left.old j → Same (set_at rows.now j) (set_at rows.now k) → at class.new j ≡ c }
+    ensures kept { (j : ℕ) → (In left.old j → Same (set_at rows.now j) (set_at rows.now k) → ⊥) → at class.new j ≡ at class.old j }
+{
+    let group = *left;
+    if group.several() {
+        let others = place(rows, group, k, class, c);
+        *left = others;
+        group.minus(others)
+    } else {
+        // it is the last of its class, and need not be compared
+        *left = Set::NONE;
+        class[k] = c as u8;
+        group
     }
 }
 
-// The items below `len`, those together that are of one old class and have the same row; `left` has the items of each old
-// class.
-// Kept: a table and a count, as in `numbered` and `by_rows`; the type of a slice has no bound of 128, so `few` would stay.
-fn part(rows: &[Set; 128], old: &[u8; 128], left: [Set; 128], len: usize) -> Partition
+// Makes classes of the items below `len`, those together that are of one old class and have the same row. Answers how many.
+// At first `left` has the items of each old class, and at last nothing.
+// Kept: tables and a count, each a field of a partition or of the old one, and written in place.
+fn part(
+    rows: &[Set; 128],
+    old: &[u8; 128],
+    len: usize,
+    left: &mut [Set; 128],
+    class: &mut [u8; 128],
+    members: &mut [Set; 128],
+) -> usize
     requires few { len ≤ 128 }
-    requires groups { Groups left old.now len }
-    ensures len { result.len ≡ len }
-    ensures numbers { Numbering (Like rows.now old.now) len (at result.class) result.classes }
+    requires groups { Groups left.old old.now len }
+    ensures numbers { Numbering (Like rows.now old.now) len (at class.new) result }
+    ensures groups { Groups members.new class.new len }
+    ensures spent { (c j : ℕ) → In (set_at left.new c) j → ⊥ }
 {
-    let mut parting = Parting {
-        class: [OPEN; 128],
-        members: [Set::NONE; 128],
-        left,
-    };
+    *class = [OPEN; 128];
+    *members = [Set::NONE; 128];
     let mut classes = 0;
     for (k, &own) in old[..len].iter().enumerate() {
-        if parting.class[k] == OPEN {
-            parting.open(rows, k, own as usize, classes);
+        if class[k] == OPEN {
+            members[classes] = open(rows, k, &mut left[own as usize], class, classes);
             classes += 1;
         }
     }
-    let class = parting.class;
-    let members = parting.members;
-    Partition {
-        len,
-        classes,
-        class,
-        members,
-    }
+    classes
 }
 
 impl Partition {
@@ -167,12 +151,21 @@ impl Partition {
         parted
     }
 
-    // The same items, those of a class together that have the same row.
-    pub(crate) fn refined(&self, rows: &[Set; 128]) -> Partition
-        ensures len { result.len ≡ self.now.len }
-        ensures numbers { Numbering (Like rows.now self.now.class) self.now.len (at result.class) result.classes }
+    // Parts the items of a class that have other rows.
+    pub(crate) fn refine(&mut self, rows: &[Set; 128])
+        ensures len { self.new.len ≡ self.old.len }
+        ensures numbers { Numbering (Like rows.now self.old.class) self.old.len (at self.new.class) self.new.classes }
     {
-        part(rows, &self.class, self.members, self.len)
+        let old = self.class;
+        let mut left = self.members;
+        self.classes = part(
+            rows,
+            &old,
+            self.len,
+            &mut left,
+            &mut self.class,
+            &mut self.members,
+        );
     }
 
     // Puts the next item into a class that there is, or into the next.

@@ -18,7 +18,7 @@ fn word_of(eight: &[u8; 8]) -> u64
 }
 
 // What is in `all`, or in the set of some component that the row marks, of the eight from `from` on, whose marks `word` has.
-// Kept: a bit of the word leads to the next mark; where each of the eight was asked, random models took a sixth more in all.
+// Kept: a bit of the word leads to the next mark; where each of the eight was asked, random models took an eighth more in all.
 fn union_eight(row: &[u8; 128], sets: &[Set; 128], from: usize, word: u64, all: Set) -> Set
     requires room { from + 8 ≤ 128 }
     requires marks { (i : ℕ) → i < 8 → at row.now (from + i) ≡ 1 → bit word (8 * i) ≡ 1 }

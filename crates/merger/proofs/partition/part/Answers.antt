@@ -1,66 +1,62 @@
-use Rattle.std.proofs.Common.{◌≡◌, ◌+◌, ◌<◌, replicate, sym, subst, arith}
+use Rattle.std.proofs.Common.{◌≡◌, ◌+◌, ◌<◌, length, replicate, refl, subst, arith, rules}
 use Rattle.std.proofs.lemmas.List.{length-take, get_or-take, get_or-replicate}
 use Rattle.sets.specs.Sets.{none}
-use Rattle.merger.specs.declared.partition.Parting.{Parting}
 use Rattle.merger.proofs.Blank.{blank}
-use Rattle.merger.proofs.Placing.{Parted, parted_none, parted_past, parted_open, parted_numbers, parted_groups, parted_some}
+use Rattle.merger.proofs.Placing.{Parted, parted_none, parted_past, parted_put, parted_is, parted_numbers, parted_groups, parted_spent}
 use Rattle.merger.proofs.partition.part.Goals as goal
-use Rattle.merger.proofs.partition.part.Goals.{then-parting-k, else-parting-k}
+use Rattle.merger.proofs.partition.part.Goals.{then-class-k, else-class-k}
 
 pub loop-k-init : goal.loop-k-init
 loop-k-init c =
-    let few = c.requires.few in
-    parted_none c.args.rows.now c.args.old.now c.args.len few _ (replicate 128 none) c.args.left
-    (λ j h. get_or-replicate 128 j 128 0 (omega arith)) (λ c. blank 128 c none) c.requires.groups
+    let few = c.requires.few in (
+      refl,
+      refl,
+      search rules,
+      parted_none c.args.rows.now c.args.old.now c.args.len few _ (replicate 128 none) c.args.left.now
+          (λ j h. get_or-replicate 128 j 128 0 (omega arith)) (λ c. blank 128 c none) c.requires.groups,
+    )
 
 pub loop-k-preserved : goal.loop-k-preserved
 loop-k-preserved c =
     let rows = c.args.rows.now in
     let old = c.args.old.now in
     let n = c.args.len in
-    let k = c.loop-k.k in
-    let S : Parting = c.loop-k.parting in
-    let m = c.loop-k.classes in
-    let A = c.loop-k.invariant in
+    let l = c.loop-k in
+    let k = l.k in
+    let i = l.invariant in
+    let tall : length l.members ≡ 128 = i.1 in
+    let wide : length l.left ≡ 128 = i.2 in
+    let A = i.3 in
     let few = c.requires.few in
     let low : k < n = omega (arith, length-take n old) in
-    let Is : Parting → _ → Type 0 = λ P i. Parted rows old n P.class P.members P.left i (k + 1) in
-    elim c.if-parting-k.branch [
-      | then-parting-k w ↦
-          let e = w.open.ensures in
-          subst (λ (P : Parting). Is P c.if-parting-k.classes) (sym w.parting-is) (subst (λ i. Is w.open.new.self i) (sym w.classes-is)
-          (parted_open rows old n few S.class w.open.new.self.class S.members w.open.new.self.members S.left w.open.new.self.left m k _ A low
-          (get_or-take n old k 0 low) w.if-parting-k.true e.placed e.kept e.group e.groups e.rest e.rests))
-      | else-parting-k w ↦
-          subst (λ (P : Parting). Is P c.if-parting-k.classes) (sym w.parting-is) (subst (λ i. Is S i) (sym w.classes-is)
-          (parted_past rows old n few S.class S.members S.left m k A low w.if-parting-k.false))
-    ]
+    let own = get_or-take n old k 0 low in
+    let s = c.if-class-k in (
+      search rules,
+      search rules,
+      search rules,
+      elim s.branch [
+        | then-class-k w ↦
+            let e = w.open.ensures in
+            parted_is rows old n few _ _ _ _ _ _ _ _ (k + 1) w.class-is w.members-is w.left-is w.classes-is
+            (parted_put rows old n few l.class w.open.new.class l.members l.left l.classes k _ w.open.result _ A low own
+            (let g = c.requires.groups.low k low in omega (arith, wide, own, g)) (let m = A.most in omega (arith, tall, m, low, few)) w.if-class-k.true e.placed e.kept e.group e.rest)
+        | else-class-k w ↦
+            parted_is rows old n few _ _ _ _ _ _ _ _ (k + 1) w.class-is w.members-is w.left-is w.classes-is
+            (parted_past rows old n few l.class l.members l.left l.classes k A low w.if-class-k.false)
+      ],
+    )
 
-pub invariant_of-result : goal.invariant_of-result
-invariant_of-result c =
+pub returns : goal.returns
+returns c =
     let rows = c.args.rows.now in
     let old = c.args.old.now in
     let n = c.args.len in
-    let S : Parting = c.loop-k.parting in
-    let m = c.loop-k.classes in
+    let l = c.loop-k in
     let few = c.requires.few in
-    let e : c.loop-k.k ≡ n = omega (arith, length-take n old, c.loop-k-test.false, c.loop-k.auto.k-end) in
-    let A = subst (λ i. Parted rows old n S.class S.members S.left m i) e c.loop-k.invariant in
+    let e : l.k ≡ n = omega (arith, length-take n old, c.loop-k-test.false, l.auto.k-end) in
+    let A = subst (λ i. Parted rows old n l.class l.members l.left l.classes i) e l.invariant.3 in
     record {
-      few = few;
-      most = A.most;
-      groups = parted_groups rows old n few S.class S.members S.left m A;
-      low = λ k h. A.past k h h;
-      some = parted_some rows old n few S.class S.members S.left m A;
+      numbers = parted_numbers rows old n few l.class l.members l.left l.classes A;
+      groups = parted_groups rows old n few l.class l.members l.left l.classes A;
+      spent = parted_spent rows old n few l.class l.members l.left l.classes A;
     }
-
-pub returns-clause-numbers : goal.returns-clause-numbers
-returns-clause-numbers c =
-    let rows = c.args.rows.now in
-    let old = c.args.old.now in
-    let n = c.args.len in
-    let S : Parting = c.loop-k.parting in
-    let m = c.loop-k.classes in
-    let few = c.requires.few in
-    let e : c.loop-k.k ≡ n = omega (arith, length-take n old, c.loop-k-test.false, c.loop-k.auto.k-end) in
-    parted_numbers rows old n few S.class S.members S.left m (subst (λ i. Parted rows old n S.class S.members S.left m i) e c.loop-k.invariant)

@@ -19,8 +19,8 @@ returns-then-not-self c =
       refused = refl;
     }
 
-pub outlooks-rows-requires : goal.outlooks-rows-requires
-outlooks-rows-requires c =
+pub write_outlooks-requires : goal.write_outlooks-requires
+write_outlooks-requires c =
     let B = meant_bounded _ _ (c.args.self.now.meant c.in_ok-check_opened.ensures) in
     let P : Partition = c.args.self.now.rounds.partition in
     let few = P.few in
@@ -40,7 +40,7 @@ reduce-requires c =
     let items = B.items in
     record {
       bounds = B;
-      rows = λ k i h o. outlook_low _ _ B k i ((c.outlooks-rows.ensures k ((c.below.ensures k).1 (h, omega arith)) i).0 o);
+      rows = λ k i h o. outlook_low _ _ B k i ((c.write_outlooks.ensures k ((c.below.ensures k).1 (h, omega arith)) i).0 o);
     }
 
 pub returns : goal.returns
@@ -54,8 +54,8 @@ returns c =
       shut = λ e. absurd (both_ways _ e c.in_ok-check_opened.ensures);
       told = λ M r A. record {
         going = λ n. absurd (n ((tabled_settled M r a.found a.rounds A.tabled).0 c.if-not-self.false));
-        settled = λ z. drawn_fills M r a.found a.rounds A.tabled c.if-not-self.false c.outlooks-rows.result
-            (λ k h. c.outlooks-rows.ensures k ((c.below.ensures k).1 (h, omega arith))) c.reduce.result c.reduce.ensures;
+        settled = λ z. drawn_fills M r a.found a.rounds A.tabled c.if-not-self.false c.write_outlooks.new.rows
+            (λ k h. c.write_outlooks.ensures k ((c.below.ensures k).1 (h, omega arith))) c.reduce.result c.reduce.ensures;
       };
       refused = tt;
     }
