@@ -1,5 +1,5 @@
 -- The tables as an open leaves them hold C_0, and ST of the first round.
-use Rattle.std.proofs.Common.{◌≡◌, ℕ, zero, suc, ◌<◌, false, ltb, ◌↔◌, List, sym, refl, ap, ◌∙◌, subst, inl, inr, arith}
+use Rattle.std.proofs.Common.{◌≡◌, ℕ, zero, suc, ◌<◌, false, ltb, ◌↔◌, List, length, sym, refl, ap, ◌∙◌, subst, inl, inr, arith}
 use Rattle.std.proofs.lemmas.Bool.{both_ways, cond-true, lt-ltb}
 use Rattle.kripke.specs.Words.{SameWords}
 use Rattle.kripke.specs.Models.{Kripke, WellFormed, Alike, words_at}
@@ -22,7 +22,9 @@ use Rattle.merger.specs.declared.partition.Partition.{Partition}
 use Rattle.merger.specs.Grids.{at, set_at}
 use Rattle.merger.specs.Tables.{part, class_of, words_of, Passes}
 use Rattle.components.specs.Alike.{AlikeMoves}
-use Rattle.merger.specs.Starts.{Inner, Spoken, Started}
+use Rattle.components.specs.Found.{FindsIn}
+use Rattle.components.specs.declared.Found.{Found as Parts}
+use Rattle.merger.specs.Starts.{Inner, Spoken, Sorted, Started}
 use Rattle.merger.specs.Analysed.{Surveyed, Tabled}
 use Rattle.merger.proofs.Moving.{part_st}
 
@@ -44,10 +46,10 @@ linked_alike M rows L facts told P n size len numbers alike is s h t =
     let words = λ (u : ℕ) (l : u < M.frame.size) (a : ℕ). told u l a ∙ cond-true (ltb u M.frame.size) (M.labels.words u a) false (lt-ltb u M.frame.size l) in
     let in-row = is s t (omega arith) in (
       (λ i.
-      let p = in-row.0 i in
-      let l : t < M.frame.size = omega (arith, p.1) in
-      let same = (numbers.same s t (omega arith) (omega arith)).0 (sym p.2) in
-      ((h, l, λ a. sym (words s h a) ∙ same a ∙ words t l a), (L.states s h t).0 p.0)),
+          let p = in-row.0 i in
+          let l : t < M.frame.size = omega (arith, p.1) in
+          let same = (numbers.same s t (omega arith) (omega arith)).0 (sym p.2) in
+          ((h, l, λ a. sym (words s h a) ∙ same a ∙ words t l a), (L.states s h t).0 p.0)),
       (λ p. in-row.1 (
         (L.states s h t).1 p.1,
         omega (arith, p.0.1),
@@ -82,6 +84,29 @@ module _ (M : Kripke) (P : Partition) (component : List ℕ) (sized : P.len ≡ 
       same p.1 p.2.2 ∙ p.4,
     )),
   )
+
+-- the components as the search puts them in order, each behind those that it moves to inside the alike states
+pub sorted : (M : Kripke) (F : Found) → Surveyed M F → (rows : List Set) (part₀ : List ℕ) (parts : Parts) → FindsIn rows part₀ F.component parts →
+    length rows ≡ M.frame.size → parts.count ≡ F.components → ((s : ℕ) → s < M.frame.size → AlikeMoves M s (set_at rows s)) → Sorted F parts.order
+sorted M F S rows part₀ parts I long many alike = record {
+  low = λ c l. subst (λ n. at parts.order c < n) many (I.order.low c (omega (arith, many)));
+  each = λ k l.
+      let s = S.components.ranked.member k l in
+      let p = I.order.each s.0 (omega (arith, s.1, long)) in
+      (p.0, omega (arith, p.1, many), p.2 ∙ s.2);
+  later = λ k l c d m near lc ld e f.
+      let low : k < F.components = subst (λ x. x < F.components) e (subst (λ n. at parts.order c < n) many (I.order.low c (omega (arith, many)))) in
+      let p = (S.moves k l low).0 m in
+      let s : ℕ = p.0 in
+      let t : ℕ = p.1 in
+      let like : Alike M s t = (
+        p.2.1,
+        p.2.2,
+        λ a.
+            sym (S.facts s p.2.1 a) ∙ ap (λ x. words_of (at F.facts x) a) p.3 ∙ near a ∙ sym (ap (λ x. words_of (at F.facts x) a) p.4) ∙ S.facts t p.2.2 a,
+      ) in
+      I.order.later s t c d (omega (arith, p.2.1, long), omega (arith, p.2.2, long), (alike s p.2.1 t).1 (like, p.2)) (omega (arith, many)) (omega (arith, many)) (e ∙ sym p.3) (f ∙ sym p.4);
+}
 
 module _ (M : Kripke) (F : Found) (S : Rounds) (O : Surveyed M F) (B : Started F S) where
   below : (s : ℕ) → s < M.frame.size → part F s < F.components

@@ -4,19 +4,8 @@ ghost use Rattle.sets.specs.Sets.{In};
 ghost use Rattle.merger.specs.Grids.{at, set_at};
 
 use crate::partition::Partition;
-use crate::tables::table;
+use crate::tables::{table, union};
 use sets::Set;
-
-// Where some states move to.
-fn targets(rows: &[Set; 128], states: Set) -> Set
-    ensures { (t : ℕ) → In result t ↔ ((s : ℕ) × In states s × In (set_at rows.now s) t) }
-{
-    let mut all = Set::NONE;
-    for s in states {
-        all = all.or(rows[s]);
-    }
-    all
-}
 
 // The components that the states of component `k` move to.
 fn moves_of(rows: &[Set; 128], components: &Partition, k: usize) -> Set
@@ -24,7 +13,7 @@ fn moves_of(rows: &[Set; 128], components: &Partition, k: usize) -> Set
     requires component { k < components.now.classes }
     ensures { (l : ℕ) → In result l ↔ ((s t : ℕ) × (s < components.now.len) × In (set_at rows.now s) t × (at components.now.class s ≡ k) × (at components.now.class t ≡ l)) }
 {
-    components.classes_of(targets(rows, components.members(k)))
+    components.classes_of(union(rows, components.members(k)))
 }
 
 // For each component, the components that its states move to.

@@ -61,8 +61,8 @@ impl Analysis {
             return Err(OpenRefusal::ShortScratch);
         }
         let rows = rows_of(model)?;
-        look_over(&mut self.found, model, &rows, walks, states);
-        start(&self.found, &mut self.rounds);
+        let order = look_over(&mut self.found, model, &rows, walks, states);
+        start(&self.found, &order, &mut self.rounds);
         self.found.labels = self.rounds.partition.classes();
         self.opened = true;
         Ok(Opened {

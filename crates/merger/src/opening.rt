@@ -4,7 +4,7 @@ ghost use Rattle.sets.specs.Sets.{In};
 ghost use Rattle.survey.specs.Gaps.{Admitted, Linked};
 ghost use Rattle.merger.specs.Grids.{set_at};
 ghost use Rattle.merger.specs.Analysed.{Surveyed};
-ghost use Rattle.merger.specs.Starts.{Started};
+ghost use Rattle.merger.specs.Starts.{Sorted, Started};
 
 use crate::between::moves_between;
 use crate::closure::close;
@@ -15,7 +15,8 @@ use components::{Walk, find_in_rows};
 use models::Model;
 use sets::Set;
 
-// Finds the components of a model, with their words and the moves between them.
+// Finds the components of a model, with their words and the moves between them. Answers the components, each behind those
+// with its words that it moves to.
 // Kept: two slices as in open.
 pub(crate) fn look_over<M: Model>(
     found: &mut Found,
@@ -23,11 +24,12 @@ pub(crate) fn look_over<M: Model>(
     rows: &[Set; 128],
     walks: &mut [Walk],
     states: &mut [u16],
-)
+) -> [u8; 128]
     requires admitted { Admitted (M.Model.means model.now).frame }
     requires linked { Linked (M.Model.means model.now).frame rows.now }
     requires rooms { ((M.Model.means model.now).frame.size ≤ length walks.old) × ((M.Model.means model.now).frame.size ≤ length states.old) }
-    ensures { Surveyed (M.Model.means model.now) found.new }
+    ensures surveyed { Surveyed (M.Model.means model.now) found.new }
+    ensures sorted { Sorted found.new result }
 {
     let size = model.size() as usize;
     let facts = facts_of(model);
@@ -39,15 +41,18 @@ pub(crate) fn look_over<M: Model>(
     found.components = parts.count as usize;
     found.facts = first_facts(&facts, &components);
     found.moves = moves_between(rows, &components);
+    parts.order
 }
 
-// The classes of alike components, and what each component reaches in its class.
-pub(crate) fn start(found: &Found, rounds: &mut Rounds)
+// The classes of alike components, and what each component reaches in its class; `order` has the components, each behind
+// those with its words that it moves to.
+pub(crate) fn start(found: &Found, order: &[u8; 128], rounds: &mut Rounds)
     requires few { found.now.components ≤ 128 }
+    requires sorted { Sorted found.now order.now }
     ensures { Started found.now rounds.new }
 {
     rounds.partition = label_classes(&found.facts, found.components);
-    let reach = close(&found.moves, &rounds.partition);
+    let reach = close(&found.moves, &rounds.partition, order);
     rounds.reach.fill(&reach, &rounds.partition);
     rounds.made = 0;
     rounds.settled = false;

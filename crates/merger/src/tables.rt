@@ -1,6 +1,7 @@
 //! What an analysis holds, in plain tables for at most 128 states; and tables made place by place.
-ghost use Rattle.std.specs.Prelude.{◌≡◌, ℕ, ◌<◌, slice_index_or};
+ghost use Rattle.std.specs.Prelude.{◌≡◌, ℕ, ◌<◌, ◌↔◌, slice_index_or};
 ghost use Rattle.sets.specs.Sets.{In};
+ghost use Rattle.merger.specs.Grids.{set_at};
 
 use crate::partition::Partition;
 use crate::reach::Reach;
@@ -55,4 +56,15 @@ pub(crate) fn table<T: Copy, F: Fn(usize) -> T>(blank: T, places: Set, make: F) 
     let mut table = [blank; 128];
     write(&mut table, places, make);
     table
+}
+
+// What is in the set of some of `places`.
+pub(crate) fn union(sets: &[Set; 128], places: Set) -> Set
+    ensures { (t : ℕ) → In result t ↔ ((s : ℕ) × In places s × In (set_at sets.now s) t) }
+{
+    let mut all = Set::NONE;
+    for s in places {
+        all = all.or(sets[s]);
+    }
+    all
 }

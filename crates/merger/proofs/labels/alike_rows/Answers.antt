@@ -1,4 +1,4 @@
-use Rattle.std.proofs.Common.{◌<◌, arith, rules}
+use Rattle.std.proofs.Common.{arith, rules}
 use Rattle.sets.specs.Sets.{none}
 use Rattle.merger.specs.declared.partition.Partition.{Partition}
 use Rattle.merger.proofs.labels.alike_rows.Goals as goal

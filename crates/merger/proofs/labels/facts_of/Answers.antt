@@ -1,4 +1,4 @@
-use Rattle.std.proofs.Common.{◌<◌, arith, rules}
+use Rattle.std.proofs.Common.{arith, rules}
 use Rattle.merger.proofs.labels.facts_of.Goals as goal
 
 pub returns : goal.returns

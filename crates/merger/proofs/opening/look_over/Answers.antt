@@ -1,21 +1,24 @@
-use Rattle.std.proofs.Common.{◌≡◌, ℕ, ◌<◌, ap, sym, ◌∙◌, subst, arith, rules}
+use Rattle.std.proofs.Common.{◌≡◌, ℕ, ◌<◌, length, take, refl, ap, sym, ◌∙◌, subst, arith, rules}
+use Rattle.std.proofs.lemmas.List.{length-take-le, get_or-take}
+use Rattle.sets.specs.Sets.{none}
 use Rattle.kripke.specs.Numbering.{Ranked}
+use Rattle.components.specs.Alike.{AlikeMoves}
 use Rattle.kripke.proofs.Ranking.{ranked_count}
 use Rattle.components.proofs.Finding.{answers_front}
 use Rattle.merger.specs.declared.partition.Partition.{Partition}
 use Rattle.merger.specs.Grids.{at}
 use Rattle.merger.specs.Tables.{words_of}
-use Rattle.merger.proofs.Starting.{spoken_words, spoken_there, linked_passes, linked_alike}
+use Rattle.merger.proofs.Starting.{spoken_words, spoken_there, linked_passes, linked_alike, sorted}
 use Rattle.merger.proofs.opening.look_over.Goals as goal
 
-pub returns : goal.returns
-returns g c =
+pub returns-clause-surveyed : goal.returns-clause-surveyed
+returns-clause-surveyed g c =
     let M = g.M.Model.means c.args.model.now in
     let e = c.size-size.ensures in
     let labels = c.label_classes.ensures in
     let told = c.facts_of-facts.ensures in
     let alike = linked_alike M c.args.rows.now c.requires.linked c.facts_of-facts.result told c.label_classes.result c.size-size.result e labels.len labels.numbers
-        c.alike_rows-alike.result c.alike_rows-alike.ensures in
+    c.alike_rows-alike.result c.alike_rows-alike.ensures in
     let few = c.requires.admitted.0.1 in
     let answer = answers_front M c.alike_rows-alike.result c.size-size.result e (omega (arith, few, e)) (search rules) alike _ _ _ _ _ _ c.find_in_rows.result c.find_in_rows.ensures in
     let found = rw c.unwrap-parts.ensures at answer in
@@ -45,3 +48,21 @@ returns g c =
           let p = linked_passes M P component sized same c.args.rows.now c.requires.linked k l in
           ((λ o. p.0 (m.0 o)), (λ o. m.1 (p.1 o)));
     }
+
+pub returns-clause-sorted : goal.returns-clause-sorted
+returns-clause-sorted g c =
+    let M = g.M.Model.means c.args.model.now in
+    let S = returns-clause-surveyed g c in
+    let found = (rw c.unwrap-parts.ensures at c.find_in_rows.ensures).1 in
+    let n = c.size-size.result in
+    let e = c.size-size.ensures in
+    let few = c.requires.admitted.0.1 in
+    let rows = c.alike_rows-alike.result in
+    let wide : length rows ≡ 128 = search rules in
+    let labels = c.label_classes.ensures in
+    let alike = linked_alike M c.args.rows.now c.requires.linked c.facts_of-facts.result c.facts_of-facts.ensures c.label_classes.result n e labels.len labels.numbers
+    rows c.alike_rows-alike.ensures in
+    sorted M _ S (take n rows) c.args.found.now.component c.unwrap-parts.result found
+    (length-take-le n rows (omega (arith, wide, few, e)) ∙ e)
+    refl
+    (λ s l. subst (AlikeMoves M s) (sym (get_or-take n rows s none (omega (arith, l, e)))) (alike s l))

@@ -5,6 +5,21 @@ use Rattle.merger.specs.Reaching.{On}
 use Rattle.merger.specs.Starts.{Inner}
 use Rattle.merger.proofs.opening.start.Goals as goal
 
+pub close-reach-requires : goal.close-reach-requires
+close-reach-requires c =
+    let labels = c.label_classes-rounds.ensures in
+    let same = labels.numbers.same in
+    let len = labels.len in
+    record {
+      low = λ p l. omega (arith, c.requires.sorted.low p (omega arith), len);
+      each = λ k l. let p = c.requires.sorted.each k (omega arith) in (p.0, omega (arith, p.1, len), p.2);
+      later = λ k l p d m near lp ld e f.
+          let low = c.requires.sorted.low in
+          let a : k < c.args.found.now.components = subst (λ x. x < c.args.found.now.components) e (low p (omega arith)) in
+          let b : l < c.args.found.now.components = subst (λ x. x < c.args.found.now.components) f (low d (omega arith)) in
+          c.requires.sorted.later k l p d m ((same k l a b).0 near) (omega arith) (omega arith) e f;
+    }
+
 pub returns : goal.returns
 returns c =
     let P : Partition = c.label_classes-rounds.result in

@@ -15,24 +15,24 @@ returns-in_err-size g c =
 pub start-requires : goal.start-requires
 start-requires g c =
     let M = g.M.Model.means c.args.model.now in
-    let O = c.look_over.ensures in
-    let few = ranked_few M.frame.size c.look_over.new.found.components (part c.look_over.new.found) O.components.ranked in
+    let O = c.look_over-order.ensures.surveyed in
+    let few = ranked_few M.frame.size c.look_over-order.new.found.components (part c.look_over-order.new.found) O.components.ranked in
     let small = O.admitted.0.1 in
-    record { few = omega arith }
+    record { few = omega arith; sorted = c.look_over-order.ensures.sorted }
 
 pub invariant_of-self : goal.invariant_of-self
-invariant_of-self g c = record { meant = λ e. ∣ (g.M.Model.means c.args.model.now, 0, begun _ _ _ _ c.classes-self.ensures c.look_over.ensures c.start.ensures) ∣₁ }
+invariant_of-self g c = record { meant = λ e. ∣ (g.M.Model.means c.args.model.now, 0, begun _ _ _ _ c.classes-self.ensures c.look_over-order.ensures.surveyed c.start.ensures) ∣₁ }
 
 pub returns : goal.returns
 returns g c =
     let M = g.M.Model.means c.args.model.now in
-    let T = begun M c.look_over.new.found c.start.new.rounds c.classes-self.result c.classes-self.ensures c.look_over.ensures c.start.ensures in
+    let T = begun M c.look_over-order.new.found c.start.new.rounds c.classes-self.result c.classes-self.ensures c.look_over-order.ensures.surveyed c.start.ensures in
     let e = c.in_ok-size.ensures.0 in (
       record {
         admitted = c.in_ok-rows.ensures.0;
         roomy = (omega arith, omega arith);
         states = T.surveyed.states;
-        components = (part c.look_over.new.found, T.surveyed.components);
+        components = (part c.look_over-order.new.found, T.surveyed.components);
         labels = T.labels;
       },
       record { opened = refl; tabled = T },
