@@ -14,6 +14,7 @@ use models::Model;
 use sets::Set;
 use survey::gaps::{self, Gap};
 
+mod passing;
 mod reading;
 mod spread;
 pub mod steps;

@@ -4,6 +4,7 @@ ghost use Rattle.sets.specs.Sets.{In};
 ghost use Rattle.kripke.specs.Paths.{Until, Stays};
 ghost use Rattle.checker.specs.Tables.{Goes, Closed, Feeds};
 
+use crate::passing::passing;
 use sets::Set;
 use survey::Rows;
 
@@ -21,7 +22,7 @@ impl Table<'_> {
     fn before(&self, f: Set, x: Set) -> Set
         ensures { (s : ℕ) → In result s ↔ (In f s × Feeds self.now.rows.now x self.now.n s) }
     {
-        f.and(Set::from_fn(self.n, |s| self.rows[s].meets(x)))
+        f.and(passing(self.n, |s| self.rows[s].meets(x)))
     }
 
     // The states with a path that ends in `g` and is in `f` before.

@@ -8,6 +8,7 @@ ghost use Rattle.checker.specs.Steps.{Denotes};
 ghost use Rattle.checker.specs.Reading.{Readable, takes};
 ghost use Rattle.checker.specs.Marks.{SetIs, TrueAt};
 
+use crate::passing::passing;
 use crate::reading::MOST_STEPS;
 use crate::spread::Table;
 use crate::steps::Step;
@@ -58,7 +59,7 @@ impl<'a, M: KripkeModel> Field<'a, M> {
     fn labelled(&self, a: u8) -> Set
         ensures { SetIs (M.Model.means self.now) (word a) result }
     {
-        Set::from_fn(
+        passing(
             self.model.size() as usize,
             |s| self.model.holds(a, s as u16),
         )

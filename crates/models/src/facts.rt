@@ -15,7 +15,7 @@ impl Facts {
     /// No word holds.
     pub const NONE: Facts = Facts { bits: 0 };
 
-    // Kept: like `from_fn` and `with` of a set, but a set has 128 bits, and kinds of labels know nothing of sets.
+    // Kept: like the check's set by a test, but of 64 bits, and kinds of labels know nothing of sets.
     // The words below `words` of which `holds` says yes.
     pub(crate) fn from_fn<F: Fn(u8) -> bool>(words: u8, holds: F) -> Facts
         requires { F.IsAlwaysCallable holds }

@@ -1,6 +1,6 @@
 use Rattle.std.proofs.Common.{ℕ, ◌<◌, true, false}
 use Rattle.sets.specs.Sets.{In}
-use Rattle.sets.proofs.Set.from_fn.Given as goal
+use Rattle.checker.proofs.passing.passing.Given as goal
 
 abbrev pub invariant-loop-k : goal.invariant-loop-k
 invariant-loop-k g l = record {
