@@ -60,7 +60,7 @@ fn list(analysis: &Analysis, text: &mut [u8]) -> Result<usize, MergeFault>
     listing(analysis, text).ok().ok_or(MergeFault::NoRoom)
 }
 
-pub fn merge_file(
+pub(crate) fn merge_file(
     file: &[u8],
     tables: &mut Tables<'_>,
     text: &mut [u8],
@@ -73,7 +73,7 @@ pub fn merge_file(
     list(&analysis, text)
 }
 
-pub fn merge<M: Model>(model: &M, text: &mut [u8]) -> Result<usize, MergeFault>
+pub(crate) fn merge<M: Model>(model: &M, text: &mut [u8]) -> Result<usize, MergeFault>
     ensures { MergesModel (M.means model.now) text.old text.new result }
 {
     let mut analysis = Analysis::new();
@@ -81,7 +81,7 @@ pub fn merge<M: Model>(model: &M, text: &mut [u8]) -> Result<usize, MergeFault>
     list(&analysis, text)
 }
 
-pub fn reduce_file(
+pub(crate) fn reduce_file(
     file: &[u8],
     tables: &mut Tables<'_>,
     out: &mut [u8],
@@ -128,7 +128,11 @@ fn read_steps<'s>(numbers: &[u16], steps: &'s mut [Step; STEPS]) -> &'s [Step]
     &steps[..count]
 }
 
-pub fn check_steps<M: Model>(model: &M, numbers: &[u16], marks: &mut [u8]) -> Result<usize, Refused>
+pub(crate) fn check_steps<M: Model>(
+    model: &M,
+    numbers: &[u16],
+    marks: &mut [u8],
+) -> Result<usize, Refused>
     ensures { ChecksModel (M.means model.now) numbers.now marks.old marks.new result }
 {
     let mut steps = [Step::True; STEPS];
@@ -136,7 +140,7 @@ pub fn check_steps<M: Model>(model: &M, numbers: &[u16], marks: &mut [u8]) -> Re
     Ok(model.size() as usize)
 }
 
-pub fn components_of<M: Model>(model: &M, part: &mut [u8; 128]) -> Option<u8>
+pub(crate) fn components_of<M: Model>(model: &M, part: &mut [u8; 128]) -> Option<u8>
     ensures { FindsComponents (M.means model.now) part.old part.new result }
 {
     let found = find_components(model, &mut [Walk::BLANK; SCRATCH], &mut [0; SCRATCH], part).ok()?;
