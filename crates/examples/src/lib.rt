@@ -1,6 +1,9 @@
 //! The example models that the tests share.
 #![tactic(auto)]
 
+ghost use Rattle.worked.specs.Cases.{polls_listed, chain_listed, lone_listed, bare_listed};
+ghost use Rattle.examples.specs.Examples.{Tabled, pair_listed};
+
 use models::facts::Facts;
 use models::listed::Listed;
 
@@ -16,7 +19,9 @@ const WORD_2: Facts = Facts { bits: 4 };
 pub const POLLS: [u8; 17] = [5, 0, 0, 1, 0, 0, 1, 1, 1, 2, 1, 2, 1, 2, 2, 2, 4];
 
 /// Five states, of which 2 has word 0: one, two or any number of polls before it.
-pub fn polls() -> Listed<'static, Facts> {
+pub fn polls() -> Listed<'static, Facts>
+    ensures { Tabled result polls_listed }
+{
     Listed {
         labels: &[NONE, NONE, WORD_0, NONE, NONE],
         offsets: &[0, 1, 2, 3, 4, 6],
@@ -25,7 +30,9 @@ pub fn polls() -> Listed<'static, Facts> {
 }
 
 /// Two rows of three states that differ only at their ends.
-pub fn chain() -> Listed<'static, Facts> {
+pub fn chain() -> Listed<'static, Facts>
+    ensures { Tabled result chain_listed }
+{
     Listed {
         labels: &[WORD_0, WORD_1, WORD_2, WORD_0, WORD_1, NONE],
         offsets: &[0, 1, 2, 3, 4, 5, 6],
@@ -34,7 +41,9 @@ pub fn chain() -> Listed<'static, Facts> {
 }
 
 /// Two states without words that move to each other.
-pub fn pair() -> Listed<'static, Facts> {
+pub fn pair() -> Listed<'static, Facts>
+    ensures { Tabled result pair_listed }
+{
     Listed {
         labels: &[NONE, NONE],
         offsets: &[0, 1, 2],
@@ -43,7 +52,9 @@ pub fn pair() -> Listed<'static, Facts> {
 }
 
 /// One state that moves to itself.
-pub fn single() -> Listed<'static, Facts> {
+pub fn single() -> Listed<'static, Facts>
+    ensures { Tabled result lone_listed }
+{
     Listed {
         labels: &[NONE],
         offsets: &[0, 1],
@@ -52,7 +63,9 @@ pub fn single() -> Listed<'static, Facts> {
 }
 
 /// One state without a move.
-pub fn resting() -> Listed<'static, Facts> {
+pub fn resting() -> Listed<'static, Facts>
+    ensures { Tabled result bare_listed }
+{
     Listed {
         labels: &[NONE],
         offsets: &[0, 0],
