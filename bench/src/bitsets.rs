@@ -16,7 +16,7 @@ pub fn merge_file(rounds: Rounds, file: &[u8], mut room: Room<'_>, text: &mut [u
     let mut rows = [0; MOST];
     let loaded = load(file, &mut room, |s, row| rows[s] = row_bits(row));
     match loaded {
-        Err(refused) => refused,
+        Err(fault) => fault.outcome(),
         Ok(loaded) if loaded.states > MOST => Outcome::refused(3, 12, 0, 0),
         Ok(loaded) => {
             let n = loaded.states;

@@ -57,7 +57,7 @@ impl Workspace {
     /// Merges the model of a file.
     pub fn merge_file(&mut self, file: &[u8], mut room: Room<'_>, text: &mut [u8]) -> Outcome {
         match load(file, &mut room, |_, _| {}) {
-            Err(refused) => refused,
+            Err(fault) => fault.outcome(),
             Ok(loaded) => {
                 let model = Listed {
                     labels: &room.labels[..loaded.states],

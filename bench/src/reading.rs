@@ -1,8 +1,6 @@
 //! A model file loaded into tables, as both engines do it: looked over first, so that a refusal alters nothing.
-use compare::library::{Facts, Outcome, Room};
-
-const LONGEST_FILE: usize = 32_767;
-const MOST_STATES: u64 = 4_096;
+use compare::library::{Facts, Room};
+use compare::reading::{fault, states_of, Fault, Rooms, LONGEST_FILE};
 
 /// How much of each table a file takes.
 #[derive(Clone, Copy)]
@@ -11,11 +9,7 @@ pub struct Loaded {
     pub moves: usize,
 }
 
-type Read<T> = Result<T, Outcome>;
-
-fn fault<T>(cause: u8, place: usize) -> Read<T> {
-    Err(Outcome::refused(if cause <= 2 { 1 } else { 2 }, cause, place, 0))
-}
+type Read<T> = Result<T, Fault>;
 
 /// Loads a file. Each row is shown with its targets while it is looked over.
 pub fn load(file: &[u8], room: &mut Room<'_>, mut row_shown: impl FnMut(usize, &[u8])) -> Read<Loaded> {
@@ -24,13 +18,7 @@ pub fn load(file: &[u8], room: &mut Room<'_>, mut row_shown: impl FnMut(usize, &
     }
     let mut bytes = Bytes { file, at: 0 };
     let states = bytes.number()?;
-    if states == 0 || states > MOST_STATES {
-        return fault(3, 0);
-    }
-    let n = states as usize;
-    if room.labels.len() < n || room.offsets.len() <= n {
-        return fault(5, 0);
-    }
+    let n = states_of(states, Rooms::of(room))?;
     let labels_at = bytes.at;
     for _ in 0..n {
         bytes.number()?;

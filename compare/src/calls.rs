@@ -104,7 +104,7 @@ pub enum Job {
 }
 
 impl Job {
-    fn name(self) -> &'static str {
+    pub fn name(self) -> &'static str {
         match self {
             Job::Listing => "merge_file",
             Job::Reduced => "reduce_file",
@@ -177,7 +177,7 @@ pub fn on_file(job: Job, file: &[u8], expected: &Expected, rooms: Rooms, out: us
     let (wanted, bytes) = answer(&expected.made, out, job.no_room());
     asked.same("answer", &wanted, &found)?;
     asked.written("buffer", &buffer, bytes)?;
-    let none = Tables { labels: vec![], offsets: vec![], targets: vec![] };
+    let none = Tables::default();
     let loaded = expected.loaded.as_ref().unwrap_or(&none);
     asked.written("labels", &labels, &loaded.labels)?;
     asked.written("offsets", &offsets, &loaded.offsets)?;

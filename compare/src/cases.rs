@@ -4,10 +4,10 @@ use compare::dice::Dice;
 use compare::generate;
 use compare::library::Listed;
 use compare::plain::{Plain, Tables};
-use compare::reading::Rooms;
+use compare::reading::{Rooms, LONGEST_FILE};
 
 /// Tables that take any file.
-const AMPLE: Rooms = Rooms { labels: 4_096, offsets: 4_097, targets: 32_767 };
+const AMPLE: Rooms = Rooms::fit(4_096, LONGEST_FILE);
 /// Tables that take a model of a few states.
 const SCANT: Rooms = Rooms { labels: 5, offsets: 5, targets: 4 };
 const JOBS: [Job; 2] = [Job::Listing, Job::Reduced];
@@ -45,9 +45,15 @@ impl Run<'_> {
             let expected = Expected::of(job, file, rooms);
             let out = expected.length().unwrap_or(64);
             let compared = on_file(job, file, &expected, rooms, out, &mut self.dice);
-            self.note(input, name(job), compared)?;
+            self.note(input, job.name(), compared)?;
         }
         Ok(())
+    }
+
+    // Both jobs on a file after damage to it.
+    fn damaged(&mut self, input: &'static str, file: &[u8]) -> Result<(), Difference> {
+        let damaged = generate::damaged(&mut self.dice, file);
+        self.file(input, &damaged, AMPLE)
     }
 
     // Both jobs with a buffer that is longer, one entry too short, and empty.
@@ -57,7 +63,7 @@ impl Run<'_> {
             let out = expected.length().unwrap_or(64);
             for room in [out + 9, out - 1, 0] {
                 let compared = on_file(job, file, &expected, rooms, room, &mut self.dice);
-                self.note(input, name(job), compared)?;
+                self.note(input, job.name(), compared)?;
             }
         }
         Ok(())
@@ -78,7 +84,7 @@ impl Run<'_> {
             let size = generate::size(&mut self.dice);
             let model = generate::model(&mut self.dice, size, 10);
             let file = model.file();
-            let fit = Rooms { labels: size, offsets: size + 1, targets: model.moves() };
+            let fit = Rooms::fit(size, model.moves());
             self.file("valid file", &file, fit)?;
             self.buffers("valid file, buffers", &file, AMPLE)?;
             for short in one_short(fit) {
@@ -109,8 +115,7 @@ impl Run<'_> {
         for _ in 0..20_000 {
             let size = generate::size(&mut self.dice).min(60);
             let file = generate::model(&mut self.dice, size, 0).file();
-            let damaged = generate::damaged(&mut self.dice, &file);
-            self.file("damaged file", &damaged, AMPLE)?;
+            self.damaged("damaged file", &file)?;
             let odd = generate::odd_number(&mut self.dice, &file);
             self.file("file with an odd number", &odd, AMPLE)?;
         }
@@ -124,12 +129,11 @@ impl Run<'_> {
             let model = generate::model(&mut self.dice, size, 4);
             let file = model.file();
             self.file("file of many states", &file, AMPLE)?;
-            let fit = Rooms { labels: size, offsets: size + 1, targets: model.moves() };
+            let fit = Rooms::fit(size, model.moves());
             for short in one_short(fit) {
                 self.file("file of many states", &file, short)?;
             }
-            let damaged = generate::damaged(&mut self.dice, &file);
-            self.file("file of many states, damaged", &damaged, AMPLE)?;
+            self.damaged("file of many states, damaged", &file)?;
         }
         Ok(())
     }
@@ -139,8 +143,7 @@ impl Run<'_> {
         for _ in 0..20 {
             let longest = generate::file_of_length(&mut self.dice, 32_767);
             self.file("file of 32,767 bytes", &longest, AMPLE)?;
-            let damaged = generate::damaged(&mut self.dice, &longest);
-            self.file("file of 32,767 bytes, damaged", &damaged, AMPLE)?;
+            self.damaged("file of 32,767 bytes, damaged", &longest)?;
             let over = generate::file_of_length(&mut self.dice, 32_768);
             self.file("file of 32,768 bytes", &over, AMPLE)?;
             let size = generate::size(&mut self.dice);
@@ -188,8 +191,7 @@ impl Run<'_> {
             let tables = generate::malformed(&mut self.dice, &model);
             self.by_tables("malformed tables", tables.listed())?;
         }
-        let none = Tables { labels: vec![], offsets: vec![], targets: vec![] };
-        self.by_tables("malformed tables", none.listed())
+        self.by_tables("malformed tables", Tables::default().listed())
     }
 
     // Many states, and rows as long as they may be and longer.
@@ -227,13 +229,6 @@ impl Run<'_> {
     fn model(&mut self) -> Plain {
         let size = generate::size(&mut self.dice);
         generate::model(&mut self.dice, size, 20)
-    }
-}
-
-fn name(job: Job) -> &'static str {
-    match job {
-        Job::Listing => "merge_file",
-        Job::Reduced => "reduce_file",
     }
 }
 

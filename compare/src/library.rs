@@ -110,96 +110,47 @@ mod raw {
     }
 }
 
-// In all of these each pointer and length come from one slice, and the library writes only into the slices that are
-// lent for writing.
+// A call of the library: of each slice that it reads or writes a pointer and then the length, and a pointer alone.
+// In all calls the library writes only into the slices that are lent for writing, and to what stands alone.
+macro_rules! call {
+    ($name:ident; reads $($read:expr),+ $(; writes $($write:expr),+)? $(; alone $alone:expr)?) => {
+        unsafe {
+            raw::$name(
+                $($read.as_ptr(), $read.len(),)+
+                $($($write.as_mut_ptr(), $write.len(),)+)?
+                $($alone)?
+            )
+        }
+    };
+}
 
 /// Loads a file, runs it to the end, and writes the listing at the front of `text`.
 pub fn merge_file(file: &[u8], room: Room<'_>, text: &mut [u8]) -> Outcome {
     let Room { labels, offsets, targets } = room;
-    unsafe {
-        raw::tulavemin_merge_file(
-            file.as_ptr(),
-            file.len(),
-            labels.as_mut_ptr(),
-            labels.len(),
-            offsets.as_mut_ptr(),
-            offsets.len(),
-            targets.as_mut_ptr(),
-            targets.len(),
-            text.as_mut_ptr(),
-            text.len(),
-        )
-    }
+    call!(tulavemin_merge_file; reads file; writes labels, offsets, targets, text)
 }
 
 /// The same of a model by tables.
 pub fn merge_tables(model: Listed<'_>, text: &mut [u8]) -> Outcome {
     let Listed { labels, offsets, targets } = model;
-    unsafe {
-        raw::tulavemin_merge_tables(
-            labels.as_ptr(),
-            labels.len(),
-            offsets.as_ptr(),
-            offsets.len(),
-            targets.as_ptr(),
-            targets.len(),
-            text.as_mut_ptr(),
-            text.len(),
-        )
-    }
+    call!(tulavemin_merge_tables; reads labels, offsets, targets; writes text)
 }
 
 /// Loads a file, runs it to the end, and writes the reduced model's file at the front of `reduced`.
 pub fn reduce_file(file: &[u8], room: Room<'_>, reduced: &mut [u8]) -> Outcome {
     let Room { labels, offsets, targets } = room;
-    unsafe {
-        raw::tulavemin_reduce_file(
-            file.as_ptr(),
-            file.len(),
-            labels.as_mut_ptr(),
-            labels.len(),
-            offsets.as_mut_ptr(),
-            offsets.len(),
-            targets.as_mut_ptr(),
-            targets.len(),
-            reduced.as_mut_ptr(),
-            reduced.len(),
-        )
-    }
+    call!(tulavemin_reduce_file; reads file; writes labels, offsets, targets, reduced)
 }
 
 /// Marks the states where the formula holds that the steps denote.
 pub fn check_tables(model: Listed<'_>, steps: &[u16], marks: &mut [u8]) -> Outcome {
     let Listed { labels, offsets, targets } = model;
-    unsafe {
-        raw::tulavemin_check_tables(
-            labels.as_ptr(),
-            labels.len(),
-            offsets.as_ptr(),
-            offsets.len(),
-            targets.as_ptr(),
-            targets.len(),
-            steps.as_ptr(),
-            steps.len(),
-            marks.as_mut_ptr(),
-            marks.len(),
-        )
-    }
+    call!(tulavemin_check_tables; reads labels, offsets, targets, steps; writes marks)
 }
 
 /// Writes each state's component at the front of `part`, and answers how many there are; 0 where there are more than 128
 /// states. The library has a struct of so many bytes there.
 pub fn components(model: Listed<'_>, part: &mut [u8; 128]) -> usize {
     let Listed { labels, offsets, targets } = model;
-    unsafe {
-        raw::tulavemin_components(
-            labels.as_ptr(),
-            labels.len(),
-            offsets.as_ptr(),
-            offsets.len(),
-            targets.as_ptr(),
-            targets.len(),
-            part,
-        )
-    }
+    call!(tulavemin_components; reads labels, offsets, targets; alone part)
 }

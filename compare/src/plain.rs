@@ -9,7 +9,7 @@ pub struct Plain {
 }
 
 /// The tables of a model, well formed or not.
-#[derive(Clone, Debug)]
+#[derive(Clone, Debug, Default)]
 pub struct Tables {
     pub labels: Vec<Facts>,
     pub offsets: Vec<u32>,

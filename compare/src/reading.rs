@@ -1,8 +1,9 @@
 //! A model file read, or its first fault.
-use crate::library::Outcome;
+use crate::library::{Outcome, Room};
 use crate::plain::Plain;
 
-const LONGEST_FILE: usize = 32_767;
+/// The most bytes of a file.
+pub const LONGEST_FILE: usize = 32_767;
 const MOST_STATES: u64 = 4_096;
 
 /// How many entries the tables have that a file is loaded into.
@@ -11,6 +12,19 @@ pub struct Rooms {
     pub labels: usize,
     pub offsets: usize,
     pub targets: usize,
+}
+
+impl Rooms {
+    /// The sizes of lent tables.
+    #[inline]
+    pub fn of(room: &Room<'_>) -> Rooms {
+        Rooms { labels: room.labels.len(), offsets: room.offsets.len(), targets: room.targets.len() }
+    }
+
+    /// As many entries as a model with so many states and moves takes.
+    pub const fn fit(states: usize, moves: usize) -> Rooms {
+        Rooms { labels: states, offsets: states + 1, targets: moves }
+    }
 }
 
 /// The first fault of a file.
@@ -22,14 +36,30 @@ pub struct Fault {
 
 impl Fault {
     /// Causes 1 and 2 are of a number, and the others of the file.
+    #[inline]
     pub fn outcome(self) -> Outcome {
         let layer = if self.cause <= 2 { 1 } else { 2 };
         Outcome::refused(layer, self.cause, self.place, 0)
     }
 }
 
-fn fault<T>(cause: u8, place: usize) -> Result<T, Fault> {
+/// Refuses a file.
+#[inline]
+pub fn fault<T>(cause: u8, place: usize) -> Result<T, Fault> {
     Err(Fault { cause, place })
+}
+
+/// How many states a file has that begins with this number, where the tables have room for them.
+#[inline]
+pub fn states_of(number: u64, rooms: Rooms) -> Result<usize, Fault> {
+    if number == 0 || number > MOST_STATES {
+        return fault(3, 0);
+    }
+    let n = number as usize;
+    if rooms.labels < n || rooms.offsets <= n {
+        return fault(5, 0);
+    }
+    Ok(n)
 }
 
 /// The model that a file denotes, where the tables have room for it.
@@ -39,13 +69,7 @@ pub fn read(file: &[u8], rooms: Rooms) -> Result<Plain, Fault> {
     }
     let mut bytes = Bytes { file, at: 0 };
     let states = bytes.number()?;
-    if states == 0 || states > MOST_STATES {
-        return fault(3, 0);
-    }
-    let n = states as usize;
-    if rooms.labels < n || rooms.offsets < n + 1 {
-        return fault(5, 0);
-    }
+    let n = states_of(states, rooms)?;
     let labels = (0..n).map(|_| bytes.number()).collect::<Result<Vec<_>, _>>()?;
     let mut room = rooms.targets;
     let rows = (0..n).map(|_| bytes.row(states, &mut room)).collect::<Result<Vec<_>, _>>()?;
