@@ -1,5 +1,5 @@
--- The example models are worked cases, each by its tables.
-use Rattle.std.specs.Prelude.{◌≡◌, ℕ, [], ◌∷◌}
+-- The example models, each by the tables of a listed case.
+use Rattle.std.specs.Prelude.{◌≡◌, [], ◌∷◌}
 use Rattle.models.specs.declared.facts.Facts.{Facts}
 use Rattle.models.specs.declared.listed.Listed.{Listed as Tables}
 use Rattle.modelfile.specs.Files.{offsets_of, targets_of}
