@@ -72,6 +72,14 @@ pub record Sorted (rows : List Set) (row group : Set) (c : ℕ) (class class' : 
   pub placed : (j : ℕ) → In group j → (In left j → ⊥) → Same (set_at rows j) row → at class' j ≡ c
   pub kept : (j : ℕ) → (In group j → (In left j → ⊥) → Same (set_at rows j) row → ⊥) → at class' j ≡ at class j
 
+pub sorted_none : (rows : List Set) (row group : Set) (c : ℕ) (class : List ℕ) → Sorted rows row group c class class none group
+sorted_none rows row group c class = record {
+  inside = λ j h. h;
+  fails = λ j. ((λ h. absurd (none_in j h)), (λ p. absurd (p.1 p.0)));
+  placed = λ j g out s. absurd (out g);
+  kept = λ j h. refl;
+}
+
 module _ (rows : List Set) (row group : Set) (c : ℕ) (class class' : List ℕ) (others left : Set) (k : ℕ) (left' : Set)
     (A : Sorted rows row group c class class' others left) (S : Splits left k left') where
   -- what was in left and is not k still is
@@ -108,17 +116,20 @@ module _ (rows : List Set) (row group : Set) (c : ℕ) (class class' : List ℕ)
         j;
   }
 
-  pub sorted_off : (others' : Set) → (Same (set_at rows k) row → ⊥) → ((j : ℕ) → In others' j ↔ (In others j ⊎ ((j ≡ k) × (k < 128)))) →
-      Sorted rows row group c class class' others' left'
-  sorted_off others' other_row with' = record {
+  pub sorted_off : (others' gone : Set) → (Same (set_at rows k) row → ⊥) → ((j : ℕ) → In gone j ↔ (In left j × (In left' j → ⊥))) →
+      ((j : ℕ) → In others' j ↔ (In others j ⊎ In gone j)) → Sorted rows row group c class class' others' left'
+  sorted_off others' gone other_row goes joined = record {
     inside = λ j h. A.inside j ((S.others j).0 h).0;
     fails = λ j. (
       (λ h. ⊎_elim
           (λ was. let p = (A.fails j).0 was in (p.0, out-of j p.1, p.2))
-          (λ e. subst (λ i. In group i × (In left' i → ⊥) × (Same (set_at rows i) row → ⊥)) (sym e.0) (A.inside k S.has, k-out, other_row))
-          ((with' j).0 h)),
-      (λ p. (with' j).1 (⊎_elim
-          (λ e. inr (e, S.small))
+          (λ new.
+          let g = (goes j).0 new in
+          let e : j ≡ k = ⊎_elim (λ e. e) (λ other. absurd (g.1 ((S.others j).1 (g.0, other)))) (cases_eq j k) in
+          (A.inside j g.0, g.1, λ s. other_row (subst (λ i. Same (set_at rows i) row) e s)))
+          ((joined j).0 h)),
+      (λ p. (joined j).1 (⊎_elim
+          (λ e. inr ((goes j).1 (subst (λ i. In left i) (sym e) S.has, p.1)))
           (λ other. inl ((A.fails j).1 (p.0, stays j other p.1, p.2)))
           (cases_eq j k))),
     );

@@ -44,12 +44,15 @@ fn place(rows: &[Set; 128], group: Set, k: usize, class: &mut [u8; 128], c: usiz
 {
     let row = rows[k];
     let mut others = Set::NONE;
-    for j in group {
+    let mut left = group;
+    // no `for` over the group: what a turn takes from `left` is the item as a set
+    while let Some((j, rest)) = left.split_first() {
         if rows[j].same(row) {
             class[j] = c as u8;
         } else {
-            others = others.with(j);
+            others = others.or(left.minus(rest));
         }
+        left = rest;
     }
     others
 }
