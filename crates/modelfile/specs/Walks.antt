@@ -1,8 +1,8 @@
 -- What the first pass over a file has read, by the numbers that it keeps.
-use Rattle.std.specs.Prelude.{◌≡◌, ℕ, ◌+◌, ◌≤◌, List, [], ◌∷◌, ◌++◌, length}
+use Rattle.std.specs.Prelude.{◌≡◌, ℕ, ◌+◌, ◌≤◌, List, [], ◌∷◌, ◌++◌, length, take, drop}
 use Rattle.kripke.specs.Reduced.{Rising}
 use Rattle.models.specs.declared.facts.Facts.{Facts}
-use Rattle.modelfile.specs.Files.{targets_of}
+use Rattle.modelfile.specs.Files.{RisingRow, targets_of}
 use Rattle.modelfile.specs.FirstFault.{at_label, at_degree, at_target, Reached}
 use Rattle.modelfile.specs.declared.scan.Room.{Room}
 use Rattle.modelfile.specs.declared.scan.Source.{Source}
@@ -39,6 +39,13 @@ pub record TargetsRead (f : Source) (r : Cursor) (count degree have low : ℕ) :
   pub given : length targets ≡ have
   pub lowest : Lowest targets low
   pub reached : Reached f.room f.file.now (at_target labels rows degree targets) r.at
+
+-- of few states, the next bytes are a right row of this degree, and the tables have room for it
+pub record ShortRow (f : Source) (r : Cursor) (degree : ℕ) : Type 0 where
+  pub few : f.states ≤ 128
+  pub inside : r.at + degree ≤ length f.file.now
+  pub held : r.targets + degree ≤ f.room.targets
+  pub rising : RisingRow f.states (take degree (drop r.at f.file.now))
 
 -- the file with so much room for it is begun: N is read, and no label
 pub record Begun (file : List ℕ) (room : Room) (p : Source × Cursor) : Type 0 where

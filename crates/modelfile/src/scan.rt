@@ -1,6 +1,6 @@
 //! The first pass over a file: whether it is right, and what is wrong with it first.
-ghost use Rattle.std.specs.Prelude.{◌≡◌, ℕ, ◌+◌, ◌<◌, ◌≤◌, length, MatchResult};
-ghost use Rattle.modelfile.specs.Files.{longest};
+ghost use Rattle.std.specs.Prelude.{◌≡◌, ℕ, ◌+◌, ◌<◌, ◌≤◌, length, MatchBool, MatchOption, MatchResult};
+ghost use Rattle.modelfile.specs.Files.{longest, RisingRow};
 ghost use Rattle.modelfile.specs.FirstFault.{FirstFault};
 ghost use Rattle.modelfile.specs.Plans.{Planned};
 
@@ -10,6 +10,9 @@ use kripke::LIMIT;
 
 /// The most bytes of a file.
 pub const LONGEST: usize = 32_767;
+
+// With so many states at most, each target is one byte.
+pub(crate) const ONE_BYTE: u16 = 0x80;
 
 // How many entries the lent tables have.
 #[derive(Clone, Copy)]
@@ -43,8 +46,22 @@ struct Cursor {
     at: usize,
 }
 
+// Whether the bytes strictly rise and are below `states`.
+fn is_row(bytes: &[u8], states: u16) -> bool
+    ensures { MatchBool result (RisingRow states bytes.now) (RisingRow states bytes.now → ⊥) }
+{
+    // a loop to the end, which looks at many bytes at a time
+    let mut low = 0;
+    let mut rises = true;
+    for byte in bytes {
+        rises &= *byte as u16 >= low;
+        low = *byte as u16 + 1;
+    }
+    rises && low <= states
+}
+
 impl<'a> Source<'a> {
-    ghost use Rattle.modelfile.specs.Walks.{LabelsRead, RowsRead, TargetsRead, Begun};
+    ghost use Rattle.modelfile.specs.Walks.{LabelsRead, RowsRead, TargetsRead, ShortRow, Begun};
 
     // Reads N.
     fn begin(file: &'a [u8], room: Room) -> Result<(Source<'a>, Cursor), FileFault>
@@ -115,16 +132,45 @@ impl<'a> Source<'a> {
         Ok(target + 1)
     }
 
-    // Reads the next row.
-    fn row(&self, read: &mut Cursor) -> Result<(), FileFault>
-        ensures { (rows : ℕ) → rows < self.now.states → RowsRead self.now read.old rows → MatchResult result (λ _. RowsRead self.now read.new (rows + 1)) (FirstFault self.now.room self.now.file.now) }
+    // Where a row ends that is right and has one byte for each target, which nearly all rows of few states are.
+    fn short_row(&self, read: &Cursor, degree: u16) -> Option<Cursor>
+        ensures { MatchOption result (ShortRow self.now read.now degree → ⊥) (λ q. ShortRow self.now read.now degree × (q ≡ record { targets = read.now.targets + degree; at = read.now.at + degree })) }
     {
-        let degree = self.degree(read)?;
+        let many = degree as usize;
+        let left = self.room.targets.checked_sub(read.targets)?;
+        let bytes = self.file.get(read.at..)?.get(..many)?;
+        if self.states > ONE_BYTE || many > left || !is_row(bytes, self.states) {
+            return None;
+        }
+        Some(Cursor {
+            targets: read.targets + many,
+            at: read.at + many,
+        })
+    }
+
+    // Reads the targets of a row, number by number.
+    fn long_row(&self, read: &mut Cursor, degree: u16) -> Result<(), FileFault>
+        ensures { (rows : ℕ) → TargetsRead self.now read.old rows degree 0 0 → MatchResult result (λ _. RowsRead self.now read.new (rows + 1)) (FirstFault self.now.room self.now.file.now) }
+    {
         let mut low = 0;
         for _target in 0..degree {
             low = self.target(read, low)?;
         }
         Ok(())
+    }
+
+    // Reads the next row.
+    fn row(&self, read: &mut Cursor) -> Result<(), FileFault>
+        ensures { (rows : ℕ) → rows < self.now.states → RowsRead self.now read.old rows → MatchResult result (λ _. RowsRead self.now read.new (rows + 1)) (FirstFault self.now.room self.now.file.now) }
+    {
+        let degree = self.degree(read)?;
+        match self.short_row(read, degree) {
+            Some(behind) => {
+                *read = behind;
+                Ok(())
+            }
+            None => self.long_row(read, degree),
+        }
     }
 
     // Reads all rows.

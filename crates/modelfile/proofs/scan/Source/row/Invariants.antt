@@ -1,8 +1,0 @@
-use Rattle.std.proofs.Common.{ℕ, ◌<◌}
-use Rattle.modelfile.specs.Walks.{RowsRead, TargetsRead}
-use Rattle.modelfile.proofs.scan.Source.row.Given as goal
-
--- of any rows that were read before, the next is read up to here
-abbrev pub invariant-loop-target : goal.invariant-loop-target
-invariant-loop-target l =
-    (rows : ℕ) → rows < l.self.states → RowsRead l.self l.fn.read rows → TargetsRead l.self l.read rows l.degree l._target l.low
