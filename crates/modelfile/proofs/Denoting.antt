@@ -34,8 +34,9 @@ targets_count : (rows : List (List ℕ)) → length (targets_of rows) ≤ length
 targets_count [] = omega arith
 targets_count (row ∷ rows) = omega (arith, targets_count rows, length-append row (targets_of rows), length-append row (flat_map counted rows))
 
-pub short_rows : (n : ℕ) → n ≤ 4096 → (rows : List (List ℕ)) → AllByRecursion (RisingRow n) rows → AllByRecursion (AllByRecursion (λ t. t < 4096)) rows
-short_rows n few rows h = All-weaker (RisingRow n) (AllByRecursion (λ t. t < 4096)) (λ row r. All-weaker (λ t. t < n) (λ t. t < 4096) (λ t l. omega arith) row r.below) rows h
+-- each target is a state
+rows_below : (n m : ℕ) → n ≡ m → (rows : List (List ℕ)) → AllByRecursion (RisingRow n) rows → AllByRecursion (AllByRecursion (λ t. t < m)) rows
+rows_below n m same rows h = All-weaker (RisingRow n) (AllByRecursion (λ t. t < m)) (λ row r. All-weaker (λ t. t < n) (λ t. t < m) (λ t l. omega arith) row r.below) rows h
 
 module _ (t : Room) (file : List ℕ) (labels : List Facts) (rows : List (List ℕ)) (denotes : Denotes t file labels rows) where
   whole : Sequence file 0 (numbers labels rows) (length file)
@@ -78,5 +79,6 @@ module _ (t : Room) (file : List ℕ) (labels : List Facts) (rows : List (List �
         stand = rows_stand at place;
         held = denotes.held.1;
         few = omega (arith, targets_few);
-        short = short_rows (length labels) denotes.valid.sized.1 rows denotes.valid.rising;
+        sized = omega (arith, denotes.valid.sized.1);
+        below = rows_below (length labels) (length rows) (sym each) rows denotes.valid.rising;
       }

@@ -1,7 +1,7 @@
 -- Numbers that stand one after another are read again, and written into a table.
 use Rattle.std.proofs.Common.{◌≡◌, ℕ, ◌+◌, ◌-◌, ◌^◌, ◌<◌, ◌≤◌, List, [], ◌∷◌, ◌++◌, map, length, get_or, take, drop, set, sym, refl, ap, ◌∙◌, subst, zero-add, arith}
 use Rattle.std.specs.List.{flat_map, AllByRecursion}
-use Rattle.std.proofs.ByRecursion.{All-get_or}
+use Rattle.std.proofs.ByRecursion.{All-get_or, All-weaker}
 use Rattle.std.proofs.lemmas.List.{append_assoc, append-nil, drop_all, drop-drop, drop_more, length-append, length-drop, length-set, length-take, length-take-le, take_all, take_at, take_more, take-take}
 use borrow.Rule.Slice.PartMut.{put_mid}
 use Rattle.codec.specs.Numbers.{code, codes, counted}
@@ -9,6 +9,7 @@ use Rattle.codec.specs.Pieces.{placed}
 use Rattle.codec.specs.Reading.{Stands}
 use Rattle.codec.proofs.Coding.{code_some}
 use Rattle.codec.proofs.Joins.{joined-append, joined_within}
+use Rattle.codec.proofs.Standing.{one_stands}
 use Rattle.codec.proofs.Places.{length-placed, placed-none, placed-set, placed_then}
 use Rattle.modelfile.specs.Files.{targets_of, offsets_from, offsets_of}
 use Rattle.modelfile.specs.Fills.{Sequence, RowFits, RowsFit}
@@ -71,6 +72,20 @@ module _ (file : List ℕ) where
 
   pub seq_none : (i k : ℕ) → Sequence file i [] k → i ≡ k
   seq_none i k seq = omega (arith, seq_end i [] k seq)
+
+  -- so many numbers stand at a place in one way at most
+  pub seq_same : (i : ℕ) (ms ns : List ℕ) (j k : ℕ) → length ms ≡ length ns → Sequence file i ms j → Sequence file i ns k → (ms ≡ ns) × (j ≡ k)
+  seq_same i [] [] j k many a b = (refl, sym (seq_none i j a) ∙ seq_none i k b)
+  seq_same i [] (n ∷ ns) j k many a b = absurd (omega arith)
+  seq_same i (m ∷ ms) [] j k many a b = absurd (omega arith)
+  seq_same i (m ∷ ms) (n ∷ ns) j k many a b =
+      let p = seq_first i m ms j a in
+      let q = seq_first i n ns k b in
+      let first = one_stands file i m n _ _ p.0 q.0 in
+      let rest = seq_same (i + length (code n)) ms ns j k (omega arith) (subst (λ x. Sequence file x ms j) first.1 p.1) q.1 in
+      let head = first.0 in
+      let tail = rest.0 in
+      ((cc), rest.1)
 
 -- numbers are read into a table of what they stand for: the first k are, and the others stand from a place on
 abbrev pub FilledTo : {X : Type 0} → (X → ℕ) → (file : List ℕ) (before table xs : List X) (k at next : ℕ) → Type 0
@@ -201,16 +216,16 @@ ends_many offsets some =
     omega (arith, length-take (length (set offsets 0 0) - 1) (drop 1 (set offsets 0 0)), length-drop 1 (set offsets 0 0), length-set offsets 0 0)
 
 -- the tables hold the next row
-pub record RowThere (file targets : List ℕ) (count degree at : ℕ) : Type 0 where
+pub record RowThere (file targets : List ℕ) (count degree at states : ℕ) : Type 0 where
   pub held : count + degree ≤ length targets
   pub few : count + degree < 2 ^ 32
-  pub fits : RowFits file at (length (take (count + degree - count) (drop count targets)))
+  pub fits : RowFits file at (length (take (count + degree - count) (drop count targets))) states
 
 pub row_there : (file offsets ends targets_were targets : List ℕ) (from k count degree at mid : ℕ) → RowsFit file from (length offsets) (length targets_were) →
     ((rows : List (List ℕ)) (next : ℕ) → length rows ≡ length (take (length (set offsets 0 0) - 1) (drop 1 (set offsets 0 0))) → Sequence file from (flat_map counted rows) next →
     RowsFilled file (take (length (set offsets 0 0) - 1) (drop 1 (set offsets 0 0))) ends targets_were targets rows k count at next) →
     k < length (take (length (set offsets 0 0) - 1) (drop 1 (set offsets 0 0))) → ((m j : ℕ) → Stands file at m j → (m ≡ degree) × (j ≡ mid)) →
-    RowThere file targets count degree mid
+    RowThere file targets count degree mid (length offsets - 1)
 row_there file offsets ends targets_were targets from k count degree at mid fit filled test known =
     let rows = fit.rows in
     let many = fit.many in
@@ -220,6 +235,7 @@ row_there file offsets ends targets_were targets from k count degree at mid fit 
     let is = row_next file _ ends targets_were targets rows k count at fit.next filled' more degree mid known in
     let held = fit.held in
     let few = fit.few in
+    let sized = fit.sized in
     let fits = is.held in
     let counts = filled'.counts in
     let long : length targets ≡ length targets_were = ap length filled'.targets_are ∙ length-placed targets_were (targets_of (take k rows)) 0 (omega arith) in
@@ -232,7 +248,8 @@ row_there file offsets ends targets_were targets from k count degree at mid fit 
         next = _;
         many = omega (arith, length-take (count + degree - count) (drop count targets), length-drop count targets);
         stands = is.stands;
-        short = All-get_or (AllByRecursion (λ t. t < 4096)) rows k [] more fit.short;
+        sized = omega arith;
+        below = All-weaker (λ t. t < length rows) (λ t. t < length offsets - 1) (λ t l. omega arith) (get_or rows k []) (All-get_or (AllByRecursion (λ t. t < length rows)) rows k [] more fit.below);
       };
     }
 

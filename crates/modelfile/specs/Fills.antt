@@ -11,15 +11,16 @@ pub record Sequence (file : List ℕ) (from : ℕ) (ns : List ℕ) (next : ℕ) 
   pub small : AllByRecursion (λ n. n < 2 ^ 64) ns
   pub text : take next file ≡ take from file ++ codes ns
 
--- a row stands at the place, which a table of so many targets holds
-pub record RowFits (file : List ℕ) (from room : ℕ) : Type 0 where
+-- a row stands at the place, which a table of so many targets holds, and each is one of so many states
+pub record RowFits (file : List ℕ) (from room states : ℕ) : Type 0 where
   pub row : List ℕ
   pub next : ℕ
   pub many : length row ≡ room
   pub stands : Sequence file from row next
-  pub short : AllByRecursion (λ t. t < 4096) row
+  pub sized : states ≤ 4096
+  pub below : AllByRecursion (λ t. t < states) row
 
--- rows stand at the place, which tables of so many offsets and targets hold
+-- rows stand at the place, which tables of so many offsets and targets hold, and each target is one of their states
 pub record RowsFit (file : List ℕ) (from offsets targets : ℕ) : Type 0 where
   pub rows : List (List ℕ)
   pub next : ℕ
@@ -27,4 +28,5 @@ pub record RowsFit (file : List ℕ) (from offsets targets : ℕ) : Type 0 where
   pub stand : Sequence file from (flat_map counted rows) next
   pub held : length (targets_of rows) ≤ targets
   pub few : length (targets_of rows) < 2 ^ 32
-  pub short : AllByRecursion (AllByRecursion (λ t. t < 4096)) rows
+  pub sized : length rows ≤ 4096
+  pub below : AllByRecursion (AllByRecursion (λ t. t < length rows)) rows

@@ -1,4 +1,4 @@
-use Rattle.std.proofs.Common.{refl, arith, rules}
+use Rattle.std.proofs.Common.{◌-◌, length, refl, arith, rules}
 use Rattle.modelfile.proofs.Filling.{RowThere, ends_many, rows_none, row_there, rows_step, rows_all}
 use Rattle.modelfile.proofs.fill.fill_rows.Goals as goal
 use Rattle.modelfile.proofs.fill.fill_rows.Goals.{After-number}
@@ -7,7 +7,7 @@ pub loop-offset-init : goal.loop-offset-init
 loop-offset-init c rows next many seq = rows_none _ _ _ rows _ next seq
 
 -- the row of which the degree is read
-there : (c : After-number) → RowThere c.args.file.now c.loop-offset.targets c.loop-offset.end c.number.result c.number.new.at
+there : (c : After-number) → RowThere c.args.file.now c.loop-offset.targets c.loop-offset.end c.number.result c.number.new.at (length c.args.offsets.now - 1)
 there c = row_there _ _ _ _ _ _ _ _ _ _ _ c.requires c.loop-offset.invariant c.loop-offset-test.true c.number.ensures
 
 pub overflow_add-end : goal.overflow_add-end

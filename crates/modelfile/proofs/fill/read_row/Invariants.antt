@@ -1,7 +1,7 @@
 use Rattle.std.proofs.Common.{◌≡◌, ℕ, List, length}
 use Rattle.modelfile.specs.Fills.{Sequence}
 use Rattle.modelfile.proofs.Filling.{FilledTo}
-use Rattle.modelfile.proofs.fill.fill_row.Given as goal
+use Rattle.modelfile.proofs.fill.read_row.Given as goal
 
 -- any targets that stand there are read up to here
 abbrev pub invariant-loop-target : goal.invariant-loop-target
