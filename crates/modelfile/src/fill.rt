@@ -37,6 +37,7 @@ fn copy_row(bytes: &[u8], row: &mut [u16])
     requires { length bytes.now ≡ length row.old }
     ensures { row.new ≡ bytes.now }
 {
+    // Kept: behind a zip with the bytes nothing would be known of what is written.
     for (k, target) in row.iter_mut().enumerate() {
         *target = bytes[k] as u16;
     }

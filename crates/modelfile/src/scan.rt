@@ -50,7 +50,7 @@ struct Cursor {
 fn is_row(bytes: &[u8], states: u16) -> bool
     ensures { MatchBool result (RisingRow states bytes.now) (RisingRow states bytes.now → ⊥) }
 {
-    // a loop to the end, which looks at many bytes at a time
+    // Kept: a search for the first pair that does not rise stops there, and so looks at one byte at a time.
     let mut low = 0;
     let mut rises = true;
     for byte in bytes {
