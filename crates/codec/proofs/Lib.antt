@@ -4,3 +4,4 @@ pub mod Laid
 pub mod Coding
 pub mod Widths
 pub mod Standing
+pub mod Fronts

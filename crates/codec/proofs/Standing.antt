@@ -1,5 +1,5 @@
 -- What stands at the front of some bytes, and at a place of a file.
-use Rattle.std.proofs.Common.{◌≡◌, ℕ, true, false, ltb, IfSome, Option, Some, None, Result, ◌+◌, ◌-◌, ◌*◌, ◌/◌, ◌%◌, ◌^◌, ◌<◌, ◌≤◌, ◌⊎◌, List, [], ◌∷◌, ◌++◌, length, get_or, take, drop, Ok, Err, sym, refl, ap, ◌∙◌, subst, inl, inr, pow-suc, add-one, arith}
+use Rattle.std.proofs.Common.{◌≡◌, ℕ, true, false, ltb, IfSome, Option, Some, None, Result, ◌+◌, ◌-◌, ◌/◌, ◌%◌, ◌^◌, ◌<◌, ◌≤◌, List, [], ◌∷◌, ◌++◌, length, get_or, take, drop, Ok, Err, sym, refl, ap, ◌∙◌, subst, inl, inr, arith}
 use Rattle.std.proofs.lemmas.List.{append_assoc, append_cancel_left, length-append, length-take-le, take-append-drop, take_at, drop_all, take_more}
 use Rattle.std.proofs.lemmas.Bool.{cases_lt}
 use Rattle.std.proofs.lemmas.Bool.Decides.{nat_tests}
@@ -7,12 +7,10 @@ use Rattle.codec.specs.Numbers.{code}
 use Rattle.std.specs.List.{list_any}
 use Rattle.std.specs.Result.{result_unwrap_or}
 use Rattle.codec.specs.Pieces.{placed, Writes}
-use Rattle.codec.specs.Reading.{Endless, Begins, RefusedBelow, Stands, Wrong, Reads, OneReading, WrittenReadsBack, ReadRewrites}
-use Rattle.codec.specs.declared.numbers.Flaw.{Flaw}
-use Rattle.codec.specs.declared.numbers.Flaw.TheVariants.{CutShort, NotFewest}
+use Rattle.codec.specs.Reading.{Endless, Begins, Stands, Wrong, Reads, OneReading, WrittenReadsBack, ReadRewrites}
 use Rattle.codec.specs.declared.numbers.NumberFault.{NumberFault}
 use Rattle.codec.specs.declared.numbers.NumberFault.TheVariants.{CutShortAt, NotFewestAt}
-use Rattle.codec.proofs.Coding.{by_bytes, code_last, code_more, code_on, code_some}
+use Rattle.codec.proofs.Coding.{by_bytes, code_last, code_more, code_some}
 use Rattle.codec.proofs.Places.{take-placed, length-placed}
 
 Alone : List ℕ → List ℕ → ℕ → Type 0
@@ -66,61 +64,6 @@ endless_if (b ∷ bs) e = grind (arith, nat_tests, endless_if bs)
 pub not_endless_if : (bs : List ℕ) → true ≡ list_any (λ b. ltb b 128) bs → Endless bs → ⊥
 not_endless_if [] e h = absurd (cc)
 not_endless_if (b ∷ bs) e h = grind (arith, nat_tests, not_endless_if bs)
-
--- what stands in the way of a number stands in its way behind one more byte
-pub refused_on : (k : ℕ) (e : Flaw) (b : ℕ) (bs : List ℕ) → 128 ≤ b → RefusedBelow (128 ^ k) e bs → RefusedBelow (128 ^ (k + 1)) e (b ∷ bs)
-refused_on k CutShort b bs h r = (h, r)
-refused_on k NotFewest b bs h r = (
-  λ e. r.0 e.1,
-  λ n rest small low e. elim (cases_lt n 128) [
-    | inl a ↦
-        let p : b ∷ bs ≡ n ∷ rest = rw (code_last n a) at e in
-        let q : b ≡ n = cc in
-        omega arith
-    | inr a ↦
-        let p : b ∷ bs ≡ (n % 128 + 128) ∷ (code (n / 128) ++ rest) = rw (code_more n a) at e in
-        let q : bs ≡ code (n / 128) ++ rest = cc in
-        let power : 128 ^ (k + 1) ≡ 128 ^ k * 128 = rw add-one (pow-suc 128 k) in
-        r.1 (n / 128) rest (omega arith) (omega arith) q
-  ],
-)
-
--- a front that is 0, or too large, makes the whole not the fewest bytes or too large
-pub refused_at : (limit b high : ℕ) (bs after : List ℕ) → 128 ≤ b → Begins bs high after → (high ≡ 0) ⊎ (2 ^ 57 ≤ high) → RefusedBelow limit NotFewest (b ∷ bs)
-refused_at limit b high bs after h begins bad = (
-  λ e. ends high after (subst Endless begins e.1),
-  λ n rest small low e. elim (cases_lt n 128) [
-    | inl a ↦
-        let p : b ∷ bs ≡ n ∷ rest = rw (code_last n a) at e in
-        let q : b ≡ n = cc in
-        omega arith
-    | inr a ↦
-        let p : b ∷ bs ≡ (n % 128 + 128) ∷ (code (n / 128) ++ rest) = rw (code_more n a) at e in
-        let q : code high ++ after ≡ code (n / 128) ++ rest = cc in
-        let same : high ≡ n / 128 = (same_front high (n / 128) after rest q).0 in
-        elim bad [ inl z ↦ omega arith | inr z ↦ omega arith ]
-  ],
-)
-
--- no room is left for another byte, and the bytes go on
-pub refused_past : (more b : ℕ) (bs : List ℕ) → more ≡ 0 → 128 ≤ b → (Endless bs → ⊥) → RefusedBelow (128 ^ (more + 1)) NotFewest (b ∷ bs)
-refused_past more b bs none h go = (
-  λ e. go e.1,
-  λ n rest small low e.
-      let one : n < 128 = subst (λ k. n < 128 ^ (k + 1)) none low in
-      let p : b ∷ bs ≡ n ∷ rest = rw (code_last n one) at e in
-      let q : b ≡ n = cc in
-      omega arith,
-)
-
-pub refused_under : (low high : ℕ) (e : Flaw) (bs : List ℕ) → 2 ^ 64 ≤ high → RefusedBelow high e bs → RefusedBelow low e bs
-refused_under low high CutShort bs h r = r
-refused_under low high NotFewest bs h r = (r.0, λ n rest small below e. r.1 n rest small (omega arith) e)
-
-pub begins_on : (bs rest after : List ℕ) (b high : ℕ) → bs ≡ b ∷ rest → 128 ≤ b → b < 256 → 0 < high → Begins rest high after → Begins bs (high * 128 + (b - 128)) after
-begins_on bs rest after b high split low byte some begins =
-    let on = code_on b high low byte some in
-    rw on (rw begins at split)
 
 -- from the bytes behind a place to places in the file
 whole : (file rest : List ℕ) (i n : ℕ) → Begins (drop i file) n rest → file ≡ (take i file ++ code n) ++ rest
@@ -194,7 +137,7 @@ one_stands file i m n j k a b =
 -- and where one stands, none is wrong
 pub not_wrong : (file : List ℕ) (i n next : ℕ) (e : NumberFault) → Stands file i n next → Wrong file i e → ⊥
 not_wrong file i n next (CutShortAt p) there wrong = ends n (drop next file) (subst Endless (begins_there file i n next there) wrong.1)
-not_wrong file i n next (NotFewestAt p) there wrong = wrong.1.1 n (drop next file) there.small there.small (begins_there file i n next there)
+not_wrong file i n next (NotFewestAt p) there wrong = wrong.1.1 n (drop next file) there.small (begins_there file i n next there)
 
 -- one fault at most is wrong
 pub one_wrong : (file : List ℕ) (i : ℕ) (d e : NumberFault) → Wrong file i d → Wrong file i e → d ≡ e

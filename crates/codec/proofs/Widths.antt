@@ -28,7 +28,7 @@ width_by_power b most w p (suc k) n few lo hi =
 coded : (most : ℕ) → Widths 128 most (λ n. length (code n))
 coded most = record { more = omega arith; last = width_last; next = λ n few. width_more n }
 
-pow-128 : (k : ℕ) → 128 ^ k ≡ 2 ^ (7 * k)
+pub pow-128 : (k : ℕ) → 128 ^ k ≡ 2 ^ (7 * k)
 pow-128 zero = refl
 pow-128 (suc k) = rw (pow-suc 128 k, pow-128 k) (sym (ap (λ j. 2 ^ j) (omega arith) ∙ pow-add 2 (7 * k) 7))
 

@@ -16,13 +16,10 @@ Endless (b ∷ bs) = (128 ≤ b) × Endless bs
 abbrev pub Begins : List ℕ → ℕ → List ℕ → Type 0
 Begins bs n rest = bs ≡ code n ++ rest
 
--- why no number below 2^64 and below the limit can be taken from the front: the bytes end too soon, or they are not its fewest
-abbrev pub RefusedBelow : ℕ → Flaw → List ℕ → Type 0
-RefusedBelow limit CutShort bs = Endless bs
-RefusedBelow limit NotFewest bs = (Endless bs → ⊥) × ((n : ℕ) (rest : List ℕ) → n < 2 ^ 64 → n < limit → Begins bs n rest → ⊥)
-
+-- why no number below 2^64 can be taken from the front: the bytes end too soon, or they are not its fewest
 abbrev pub Refused : Flaw → List ℕ → Type 0
-Refused flaw bs = RefusedBelow (2 ^ 64) flaw bs
+Refused CutShort bs = Endless bs
+Refused NotFewest bs = (Endless bs → ⊥) × ((n : ℕ) (rest : List ℕ) → n < 2 ^ 64 → Begins bs n rest → ⊥)
 
 -- the number n stands from one place up to the next
 pub record Stands (file : List ℕ) (from n next : ℕ) : Type 0 where

@@ -3,7 +3,7 @@ ghost use Rattle.std.specs.Prelude.{◌≡◌, ℕ, ◌+◌, ◌++◌, ◌^◌, 
 ghost use Rattle.std.specs.List.{list_any};
 ghost use Rattle.codec.specs.Numbers.{code, codes, counted, EachCodeIsShortest};
 ghost use Rattle.codec.specs.Pieces.{Writes};
-ghost use Rattle.codec.specs.Reading.{Begins, Endless, Refused, RefusedBelow, Reads, Stands, located, OneReading, WrittenReadsBack, ReadRewrites};
+ghost use Rattle.codec.specs.Reading.{Begins, Endless, Refused, Reads, Stands, located, OneReading, WrittenReadsBack, ReadRewrites};
 
 use crate::pieces::{All, Byte, Piece, Series, within};
 
@@ -26,8 +26,8 @@ enum Flaw {
 // Added on all bytes of a number but the last.
 const MORE: u8 = 0x80;
 
-// 2^57: what comes behind the lowest seven bits of a number below 2^64 is below this.
-const HIGH_LIMIT: u64 = 0x0200_0000_0000_0000;
+// The place of the last byte of the longest numbers: ten bytes hold each below 2^64.
+const LAST: usize = 9;
 
 // Whether some byte is below 0x80, so that a number ends.
 fn has_end(bytes: &[u8]) -> bool
@@ -36,35 +36,34 @@ fn has_end(bytes: &[u8]) -> bool
     bytes.iter().any(|byte| *byte < MORE)
 }
 
-// Takes the number at the front of `bytes`, and what follows it; at most `more` bytes follow its first.
-fn take_number(bytes: &[u8], more: u8) -> Result<(u64, &[u8]), Flaw>
-    ensures { MatchResult result (λ p. Begins bytes.now p.0 p.1.now) (λ e. RefusedBelow (128 ^ (more + 1)) e bytes.now) }
-{
-    match bytes {
-        [] => Err(Flaw::CutShort),
-        [last, rest @ ..] if *last < MORE => Ok((*last as u64, rest)),
-        [first, rest @ ..] => {
-            if more == 0 {
-                return if has_end(rest) {
-                    Err(Flaw::NotFewest)
-                } else {
-                    Err(Flaw::CutShort)
-                };
-            }
-            let (high, after) = take_number(rest, more - 1)?;
-            if high == 0 || high >= HIGH_LIMIT {
-                return Err(Flaw::NotFewest);
-            }
-            Ok((high * 128 + (*first - MORE) as u64, after))
-        }
-    }
-}
-
-// Takes the number at the front of `bytes`, and what follows it: ten bytes hold each below 2^64.
+// Takes the number at the front of `bytes`, and what follows it.
 fn read_number(bytes: &[u8]) -> Result<(u64, &[u8]), Flaw>
     ensures { MatchResult result (λ p. Begins bytes.now p.0 p.1.now) (λ e. Refused e bytes.now) }
 {
-    take_number(bytes, 9)
+    // what the bytes so far stand for, and how much a 1 in the next adds
+    let mut low = 0;
+    let mut scale = 1;
+    for (k, byte) in bytes.iter().enumerate() {
+        if *byte < MORE {
+            if *byte == 0 && k > 0 {
+                return Err(Flaw::NotFewest);
+            }
+            if *byte > 1 && k == LAST {
+                return Err(Flaw::NotFewest);
+            }
+            return Ok((low + *byte as u64 * scale, &bytes[k + 1..]));
+        }
+        if k == LAST {
+            return Err(if has_end(bytes) {
+                Flaw::NotFewest
+            } else {
+                Flaw::CutShort
+            });
+        }
+        low += (*byte - MORE) as u64 * scale;
+        scale *= 128;
+    }
+    Err(Flaw::CutShort)
 }
 
 // The bytes from `at` on: none where that is past the end.
