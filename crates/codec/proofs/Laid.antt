@@ -69,6 +69,18 @@ module _ {X : Type 0} where
   lays_one [] b h = absurd (omega arith)
   lays_one (x ∷ xs) b h = record { over = ap (λ ys. b ∷ ys) (sym (laid-none xs)); counts = omega arith }
 
+  -- two elements, and three
+  pub lays_two : (xs : List X) (a b : X) → 2 ≤ length xs → Lays (a ∷ b ∷ []) xs (set (set xs 0 a) 1 b) 2
+  lays_two [] a b h = absurd (omega arith)
+  lays_two (x ∷ []) a b h = absurd (omega arith)
+  lays_two (x ∷ y ∷ xs) a b h = record { over = ap (λ ys. a ∷ b ∷ ys) (sym (laid-none xs)); counts = omega arith }
+
+  pub lays_three : (xs : List X) (a b c : X) → 3 ≤ length xs → Lays (a ∷ b ∷ c ∷ []) xs (set (set (set xs 0 a) 1 b) 2 c) 3
+  lays_three [] a b c h = absurd (omega arith)
+  lays_three (x ∷ []) a b c h = absurd (omega arith)
+  lays_three (x ∷ y ∷ []) a b c h = absurd (omega arith)
+  lays_three (x ∷ y ∷ z ∷ xs) a b c h = record { over = ap (λ ys. a ∷ b ∷ c ∷ ys) (sym (laid-none xs)); counts = omega arith }
+
   laid_front : (xs piece : List X) (count : ℕ) → count ≡ min (length piece) (length xs) → laid xs piece ≡ take count piece ++ drop count xs
   laid_front [] piece zero e = refl
   laid_front [] piece (suc k) e = absurd (omega arith)

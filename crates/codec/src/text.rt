@@ -1,6 +1,7 @@
 //! Lines of text: a name, and numbers in decimal.
-ghost use Rattle.std.specs.Prelude.{◌≡◌, ◌∷◌, ◌++◌, [], length, decimal};
+ghost use Rattle.std.specs.Prelude.{◌≡◌, ◌<◌, ◌≤◌, ◌∷◌, ◌++◌, [], length, decimal};
 ghost use Rattle.std.specs.List.{flat_map};
+ghost use Rattle.codec.specs.Pieces.{Lays};
 ghost use Rattle.codec.specs.Texts.{field, line};
 
 use crate::pieces::{All, Byte, Piece, Series, within};
@@ -18,6 +19,29 @@ impl Decimal {
     }
 }
 
+// Lays a number of three digits at most over a front that has room for three, and answers how many these are.
+fn put_short(number: u16, space: &mut [u8]) -> usize
+    requires small { number < 1000 }
+    requires room { 3 ≤ length space.old }
+    ensures { Lays (decimal number) space.old space.new result }
+{
+    let last = b'0' + (number % 10) as u8;
+    if number < 10 {
+        space[0] = last;
+        return 1;
+    }
+    let tens = number / 10;
+    if tens < 10 {
+        space[0] = b'0' + tens as u8;
+        space[1] = last;
+        return 2;
+    }
+    space[0] = b'0' + (tens / 10) as u8;
+    space[1] = b'0' + (tens % 10) as u8;
+    space[2] = last;
+    3
+}
+
 impl Piece for Decimal {
     ghost bytes = { λ n. decimal n.0 };
 
@@ -26,6 +50,10 @@ impl Piece for Decimal {
     }
 
     fn put(&self, space: &mut [u8]) -> usize {
+        // nearly all numbers are short, and no digit of theirs is then written by a call of its own
+        if self.0 < 1000 && space.len() >= 3 {
+            return put_short(self.0 as u16, space);
+        }
         if self.0 < 10 {
             return Byte(b'0' + self.0 as u8).put(space);
         }
