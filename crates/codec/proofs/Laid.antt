@@ -1,6 +1,6 @@
 -- A piece laid over the front of a list, and more laid behind it.
 use Rattle.std.proofs.Common.{◌≡◌, ℕ, zero, suc, ◌+◌, ◌-◌, ◌<◌, ◌≤◌, min, List, [], ◌∷◌, ◌++◌, length, take, drop, set, sym, refl, ap, ◌∙◌, arith}
-use Rattle.std.proofs.lemmas.List.{append-nil, drop_all, drop-drop, length-append, length-drop, take_all}
+use Rattle.std.proofs.lemmas.List.{append-nil, drop_all, drop-drop, length-append, length-drop, take_all, take_at}
 use borrow.Rule.Slice.PartMut.{mid_of, post_of, put_mid}
 use Rattle.codec.specs.Pieces.{laid, placed, Lays}
 
@@ -54,6 +54,13 @@ module _ {X : Type 0} where
   laid_room [] (y ∷ piece) h = absurd (omega arith)
   laid_room (x ∷ xs) [] h = refl
   laid_room (x ∷ xs) (y ∷ piece) h = ap (λ zs. y ∷ zs) (laid_room xs piece (omega arith))
+
+  -- a piece that has room stands at the front
+  pub lays_whole : (xs out piece : List X) (count : ℕ) → length piece ≤ length xs → Lays piece xs out count → take count out ≡ piece
+  lays_whole xs out piece count h lays =
+      let counts = lays.counts in
+      let all : count ≡ length piece = omega arith in
+      ap (take count) (lays.over ∙ laid_room xs piece h) ∙ take_at piece (drop (length piece) xs) count (sym all)
 
   -- a piece that has room from a place on, laid over what stands there
   pub lays_placed : (xs out piece : List X) (i count : ℕ) → i + length piece ≤ length xs → Lays piece (mid_of i (length xs - i) xs) out count → put_mid i (length xs - i) xs out ≡ placed xs i piece

@@ -19,10 +19,10 @@ use Rattle.merger.proofs.Rounding.{meant_bounded}
 use Rattle.exchange.specs.Texts.{Line, Member, line_text}
 use Rattle.exchange.specs.Listings.{class_in, states_in, count_lines, members, Lines, text_of, ListingAnswer}
 
-states-open : (a : Analysis) → a.opened ≡ true → states_in a ≡ a.found.states
+pub states-open : (a : Analysis) → a.opened ≡ true → states_in a ≡ a.found.states
 states-open a e = rw e refl
 
-states-shut : (a : Analysis) → a.opened ≡ false → states_in a ≡ 0
+pub states-shut : (a : Analysis) → a.opened ≡ false → states_in a ≡ 0
 states-shut a e = rw e refl
 
 -- what is opened has few states

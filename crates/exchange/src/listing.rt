@@ -6,6 +6,9 @@ use codec::pieces::{All, Piece, Text};
 use merger::analysis::Analysis;
 use merger::answers::Refusal;
 
+// The lines of 128 states: none has more than three digits, a space, three digits and a line feed.
+const PAGE: usize = 128 * 8;
+
 /// Writes the listing of a settled analysis at the buffer's front, leaves the rest, and answers its length.
 /// Where nothing was opened, the analysis is not settled or the buffer is too short it refuses, and alters nothing.
 pub fn listing(analysis: &Analysis, buffer: &mut [u8]) -> Result<usize, Refusal>
@@ -22,7 +25,10 @@ pub fn listing(analysis: &Analysis, buffer: &mut [u8]) -> Result<usize, Refusal>
         Entry(Text(b"rounds"), summary.rounds as u64),
         Entry(Text(b"classes"), summary.classes as u64),
     ];
+    // a page has room for the members, so that only its text is measured
+    let mut page = [0; PAGE];
     let members = Members { analysis, from: 0 };
-    let lines = (All(counts.as_slice()), All(members));
+    let len = All(members).put(&mut page);
+    let lines = (All(counts.as_slice()), Text(&page[..len]));
     lines.write(buffer, 0).ok_or(Refusal::ShortBuffer)
 }
