@@ -42,6 +42,18 @@ fn put_short(number: u16, space: &mut [u8]) -> usize
     3
 }
 
+// Lays any number over the front, as many of its digits as have room, and answers how many these are.
+fn put_digits(number: u64, space: &mut [u8]) -> usize
+    ensures { Lays (decimal number) space.old space.new result }
+{
+    let last = Byte(b'0' + (number % 10) as u8);
+    if number < 10 {
+        return last.put(space);
+    }
+    let end = put_digits(number / 10, space);
+    end + last.put(&mut space[end..])
+}
+
 impl Piece for Decimal {
     ghost bytes = { λ n. decimal n.0 };
 
@@ -50,15 +62,12 @@ impl Piece for Decimal {
     }
 
     fn put(&self, space: &mut [u8]) -> usize {
-        // nearly all numbers are short, and no digit of theirs is then written by a call of its own
+        // nearly all numbers are short, and then no call is made for a digit
         if self.0 < 1000 && space.len() >= 3 {
-            return put_short(self.0 as u16, space);
+            put_short(self.0 as u16, space)
+        } else {
+            put_digits(self.0, space)
         }
-        if self.0 < 10 {
-            return Byte(b'0' + self.0 as u8).put(space);
-        }
-        let end = Decimal(self.0 / 10).put(space);
-        end + Byte(b'0' + (self.0 % 10) as u8).put(&mut space[end..])
     }
 }
 
