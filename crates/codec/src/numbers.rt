@@ -84,6 +84,8 @@ fn locate(flaw: Flaw, at: usize, end: usize) -> NumberFault
 }
 
 // The number that begins at `at`, however many bytes it has, and where the next begins.
+// A call of its own, so that the one byte of most numbers is looked at where it is asked for.
+#[inline(never)]
 fn long_number_at(file: &[u8], at: usize) -> Result<(u64, usize), NumberFault>
     ensures { Reads file.now at result }
 {

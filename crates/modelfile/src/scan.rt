@@ -136,10 +136,13 @@ impl<'a> Source<'a> {
     fn short_row(&self, read: &Cursor, degree: u16) -> Option<Cursor>
         ensures { MatchOption result (ShortRow self.now read.now degree → ⊥) (λ q. ShortRow self.now read.now degree × (q ≡ record { targets = read.now.targets + degree; at = read.now.at + degree })) }
     {
+        if self.states > ONE_BYTE {
+            return None;
+        }
         let many = degree as usize;
         let left = self.room.targets.checked_sub(read.targets)?;
         let bytes = self.file.get(read.at..)?.get(..many)?;
-        if self.states > ONE_BYTE || many > left || !is_row(bytes, self.states) {
+        if many > left || !is_row(bytes, self.states) {
             return None;
         }
         Some(Cursor {
