@@ -132,7 +132,7 @@ impl<'a> Source<'a> {
         Ok(target + 1)
     }
 
-    // Where a row ends that is right and has one byte for each target, which nearly all rows of few states are.
+    // What is read with the next row too, if it is right and each of its targets is one byte, as in most files of few states.
     fn short_row(&self, read: &Cursor, degree: u16) -> Option<Cursor>
         ensures { MatchOption result (ShortRow self.now read.now degree → ⊥) (λ q. ShortRow self.now read.now degree × (q ≡ record { targets = read.now.targets + degree; at = read.now.at + degree })) }
     {
