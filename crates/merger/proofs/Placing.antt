@@ -23,47 +23,41 @@ same_stable x y not_other c = (
   (λ h. ⊎_elim (λ i. i) (λ out. absurd (not_other (λ s. out ((s c).1 h)))) (in_dec x.bits c)),
 )
 
--- what `position` gives, told of the rows below k
-pub first_below : (rows : List Set) (k : ℕ) → k ≤ length rows → (r : Option ℕ) (Yes No : Set → Type 0) →
-    MatchOption r (AllWithin No (take k rows) 0 (length (take k rows)))
-    (λ i. (i < length (take k rows)) × HoldsAt Yes (take k rows) i × AllWithin No (take k rows) 0 i) →
-    MatchOption r ((j : ℕ) → j < k → No (set_at rows j)) (λ j. (j < k) × Yes (set_at rows j))
-first_below rows k room None Yes No all = λ j h. subst No (get_or-take k rows j none h) (all j none (omega arith) (omega (arith, length-take k rows)))
-first_below rows k room (Some i) Yes No p =
-    let l : i < k = omega (arith, p.0, length-take k rows) in
-    (l, subst Yes (get_or-take k rows i none l) (p.1 none))
+-- what `position` gives, told of the entries below k
+pub first_below : (words : List ℕ) (k : ℕ) → k ≤ length words → (r : Option ℕ) (Yes No : ℕ → Type 0) →
+    MatchOption r (AllWithin No (take k words) 0 (length (take k words)))
+    (λ i. (i < length (take k words)) × HoldsAt Yes (take k words) i × AllWithin No (take k words) 0 i) →
+    MatchOption r ((j : ℕ) → j < k → No (at words j)) (λ j. (j < k) × Yes (at words j))
+first_below words k room None Yes No all = λ j h. subst No (get_or-take k words j 0 h) (all j 0 (omega arith) (omega (arith, length-take k words)))
+first_below words k room (Some i) Yes No p =
+    let l : i < k = omega (arith, p.0, length-take k words) in
+    (l, subst Yes (get_or-take k words i 0 l) (p.1 0))
 
--- P' is P with one item more in class into, and the items of a class are those of a row
-module _ (rows : List Set) (P P' : Partition) (k into : ℕ) (items : P.len ≡ k) where
-  abbrev Rows : ℕ → ℕ → Type 0
-  Rows i j = Same (set_at rows i) (set_at rows j)
+-- P' is P with one item more in class into, and the items of a class are those of some words
+module _ (words : List ℕ) (P P' : Partition) (k into : ℕ) (items : P.len ≡ k) where
+  abbrev Equal : ℕ → ℕ → Type 0
+  Equal i j = at words i ≡ at words j
 
-  module _ (N : Numbering Rows k (at P.class) P.classes) (classes : P'.classes ≡ max P.classes (into + 1))
+  module _ (N : Numbering Equal k (at P.class) P.classes) (classes : P'.classes ≡ max P.classes (into + 1))
       (last : at P'.class P.len ≡ into) (others : (i : ℕ) → i < P.len → at P'.class i ≡ at P.class i) where
-    turn : (i j : ℕ) → Rows i j → Rows j i
-    turn i j p c = ((p c).1, (p c).0)
-
-    join : (i j k : ℕ) → Rows i j → Rows j k → Rows i k
-    join i j k p q c = ((λ h. (q c).0 ((p c).0 h)), (λ h. (p c).1 ((q c).1 h)))
-
     kept : (i : ℕ) → i < k → at P'.class i ≡ at P.class i
     kept i h = others i (omega arith)
 
     here : at P'.class k ≡ into
     here = ap (at P'.class) (sym items) ∙ last
 
-    pub row_old : (j : ℕ) → j < k → Rows j k → into ≡ at P.class j → Numbering Rows (k + 1) (at P'.class) P'.classes
-    row_old j l same is =
+    pub words_old : (j : ℕ) → j < k → Equal j k → into ≡ at P.class j → Numbering Equal (k + 1) (at P'.class) P'.classes
+    words_old j l same is =
         let b = N.ranked.below j l in
         let still : P'.classes ≡ P.classes = omega arith in
-        subst (λ m. Numbering Rows (k + 1) (at P'.class) m) (sym still)
-        (number_old Rows turn join k P.classes (same_own (set_at rows k)) (at P.class) (at P'.class) N kept j l same (here ∙ is))
+        subst (λ m. Numbering Equal (k + 1) (at P'.class) m) (sym still)
+        (number_old Equal (λ a b e. sym e) (λ a b d e f. e ∙ f) k P.classes refl (at P.class) (at P'.class) N kept j l same (here ∙ is))
 
-    pub row_new : ((j : ℕ) → j < k → Rows j k → ⊥) → into ≡ P.classes → Numbering Rows (k + 1) (at P'.class) P'.classes
-    row_new apart is =
+    pub words_new : ((j : ℕ) → j < k → Equal j k → ⊥) → into ≡ P.classes → Numbering Equal (k + 1) (at P'.class) P'.classes
+    words_new apart is =
         let more : P'.classes ≡ P.classes + 1 = omega arith in
-        subst (λ m. Numbering Rows (k + 1) (at P'.class) m) (sym more)
-        (number_new Rows turn join k P.classes (same_own (set_at rows k)) (at P.class) (at P'.class) N kept apart (here ∙ is))
+        subst (λ m. Numbering Equal (k + 1) (at P'.class) m) (sym more)
+        (number_new Equal (λ a b e. sym e) (λ a b d e f. e ∙ f) k P.classes refl (at P.class) (at P'.class) N kept apart (here ∙ is))
 
 -- of group, those that have row and are no more in left have class c, and others has the others
 pub record Sorted (rows : List Set) (row group : Set) (c : ℕ) (class class' : List ℕ) (others left : Set) : Type 0 where

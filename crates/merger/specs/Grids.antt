@@ -1,5 +1,5 @@
 -- Rows of numbers and of sets, a place for each component.
-use Rattle.std.specs.Prelude.{◌≡◌, ℕ, ◌<◌, ◌⊎◌, ◌↔◌, List, ◌≢◌, slice_index, slice_index_or}
+use Rattle.std.specs.Prelude.{◌≡◌, ℕ, ◌%◌, ◌<◌, ◌⊎◌, ◌↔◌, List, ◌≢◌, slice_index, slice_index_or}
 use Rattle.sets.specs.declared.Set.{Set}
 use Rattle.sets.specs.Sets.{In, none}
 
@@ -10,6 +10,10 @@ at row k = slice_index row k
 -- set k of a table
 abbrev pub set_at : List Set → ℕ → Set
 set_at sets k = slice_index_or sets k none
+
+-- a number below 127 that words have, the same for the same words
+abbrev pub slot : ℕ → ℕ
+slot words = words % 127
 
 -- members has the items of each class, of those below count
 pub record Groups (members : List Set) (class : List ℕ) (count : ℕ) : Type 0 where

@@ -53,6 +53,5 @@ pub(crate) fn label_classes(facts: &[u64; 128], count: usize) -> Partition
     ensures len { result.len ≡ count }
     ensures numbers { Numbering (λ j k. SameWords (words_of (at facts.now j)) (words_of (at facts.now k))) count (at result.class) result.classes }
 {
-    let rows = table(Set::NONE, Set::below(count), |k| Set::from_bits(facts[k]));
-    Partition::by_rows(&rows, count)
+    Partition::by_words(facts, count)
 }

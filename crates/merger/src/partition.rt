@@ -3,7 +3,7 @@
 ghost use Rattle.std.specs.Prelude.{◌≡◌, ℕ, ◌+◌, ◌<◌, ◌≤◌, ◌↔◌, ◌≢◌, max, MatchOption};
 ghost use Rattle.sets.specs.Sets.{In};
 ghost use Rattle.kripke.specs.Numbering.{First, Ranked, Numbering};
-ghost use Rattle.merger.specs.Grids.{at, set_at, Groups, Several, Same, Like};
+ghost use Rattle.merger.specs.Grids.{at, set_at, slot, Groups, Several, Same, Like};
 
 use sets::Set;
 
@@ -24,12 +24,24 @@ pub(crate) struct Partition {
     ghost some: { (c : ℕ) → c < classes → (set_at members c).bits ≢ 0 },
 }
 
-// The first item that has the row of item `k`, of those before it.
-fn first_like(rows: &[Set; 128], k: usize) -> Option<usize>
-    requires { k < 128 }
-    ensures { MatchOption result ((j : ℕ) → j < k → Same (set_at rows.now j) (set_at rows.now k) → ⊥) (λ j. (j < k) × Same (set_at rows.now j) (set_at rows.now k)) }
+// A number of words below 127, the same for the same words.
+fn slot_of(words: u64) -> usize
+    ensures { result ≡ slot words }
 {
-    rows[..k].iter().position(|row| row.same(rows[k]))
+    (words % 127) as usize
+}
+
+// The first item that has the words of item `k`, of those before it, whose slots are in `seen`.
+fn first_like(words: &[u64; 128], seen: Set, k: usize) -> Option<usize>
+    requires few { k < 128 }
+    requires seen { (j : ℕ) → j < k → In seen (slot (at words.now j)) }
+    ensures { MatchOption result ((j : ℕ) → j < k → at words.now j ≢ at words.now k) (λ j. (j < k) × (at words.now j ≡ at words.now k)) }
+{
+    // nearly all words that are new have a slot of their own, and then no item is looked at
+    if !seen.has(slot_of(words[k])) {
+        return None;
+    }
+    words[..k].iter().position(|&own| own == words[k])
 }
 
 // The class of an item that has none yet.
@@ -137,18 +149,20 @@ impl Partition {
         numbered
     }
 
-    // The items below `len`, those together that have the same row.
-    pub(crate) fn by_rows(rows: &[Set; 128], len: usize) -> Partition
+    // The items below `len`, those together that have the same words.
+    pub(crate) fn by_words(words: &[u64; 128], len: usize) -> Partition
         requires { len ≤ 128 }
         ensures len { result.len ≡ len }
-        ensures numbers { Numbering (λ j k. Same (set_at rows.now j) (set_at rows.now k)) len (at result.class) result.classes }
+        ensures numbers { Numbering (λ j k. at words.now j ≡ at words.now k) len (at result.class) result.classes }
     {
         let mut parted = Partition::new();
+        let mut seen = Set::NONE;
         for k in 0..len {
-            let into = match first_like(rows, k) {
+            let into = match first_like(words, seen, k) {
                 Some(j) => parted.class_of(j),
                 None => parted.classes(),
             };
+            seen = seen.with(slot_of(words[k]));
             parted.put(into);
         }
         parted
