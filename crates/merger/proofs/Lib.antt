@@ -5,6 +5,7 @@ pub mod Joining
 pub mod Placing
 pub mod Advancing
 pub mod Moving
+pub mod Alone
 pub mod Closing
 pub mod Speaking
 pub mod Starting

@@ -8,42 +8,43 @@ ghost use Rattle.merger.specs.Grids.{at, set_at};
 ghost use Rattle.merger.specs.Tables.{words_of};
 
 use crate::partition::Partition;
-use crate::tables::table;
+use crate::tables::write;
 use models::Model;
 use sets::Set;
 
-// The words of each state as bits.
-pub(crate) fn facts_of<M: Model>(model: &M) -> [u64; 128]
+// Writes the words of each state as bits.
+// Kept: tables are written in place, here and below, since a table that is handed out is copied.
+pub(crate) fn write_facts<M: Model>(model: &M, facts: &mut [u64; 128])
     requires { (M.Model.means model.now).frame.size ≤ 128 }
-    ensures { (s : ℕ) → s < (M.Model.means model.now).frame.size → SameWords (words_of (at result s)) (words_at (M.Model.means model.now) s) }
+    ensures { (s : ℕ) → s < (M.Model.means model.now).frame.size → SameWords (words_of (at facts.new s)) (words_at (M.Model.means model.now) s) }
 {
-    table(
-        0,
+    write(
+        facts,
         Set::below(model.size() as usize),
         |s| model.facts(s as u16).bits,
-    )
+    );
 }
 
-// Of each component: the words of its first state.
-pub(crate) fn first_facts(facts: &[u64; 128], components: &Partition) -> [u64; 128]
-    ensures { (k : ℕ) → k < components.now.classes → (s : ℕ) × First components.now.len (at components.now.class) k s × (at result k ≡ at facts.now s) }
+// Writes for each component the words of its first state.
+pub(crate) fn write_first(facts: &[u64; 128], components: &Partition, first: &mut [u64; 128])
+    ensures { (k : ℕ) → k < components.now.classes → (s : ℕ) × First components.now.len (at components.now.class) k s × (at first.new k ≡ at facts.now s) }
 {
-    table(
-        0,
+    write(
+        first,
         Set::below(components.classes()),
         |k| facts[components.first(k)],
-    )
+    );
 }
 
-// Of each state: those that it moves to and that are of its class.
-pub(crate) fn alike_rows(rows: &[Set; 128], labels: &Partition) -> [Set; 128]
-    ensures { (s t : ℕ) → s < labels.now.len → In (set_at result s) t ↔ (In (set_at rows.now s) t × (t < labels.now.len) × (at labels.now.class t ≡ at labels.now.class s)) }
+// Writes for each state those that it moves to and that are of its class.
+pub(crate) fn write_alike(rows: &[Set; 128], labels: &Partition, alike: &mut [Set; 128])
+    ensures { (s t : ℕ) → s < labels.now.len → In (set_at alike.new s) t ↔ (In (set_at rows.now s) t × (t < labels.now.len) × (at labels.now.class t ≡ at labels.now.class s)) }
 {
-    table(
-        Set::NONE,
+    write(
+        alike,
         Set::below(labels.len()),
         |s| rows[s].and(labels.group_of(s)),
-    )
+    );
 }
 
 // States or components by their words, numbered by the first of each.

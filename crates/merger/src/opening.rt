@@ -6,9 +6,9 @@ ghost use Rattle.merger.specs.Grids.{set_at};
 ghost use Rattle.merger.specs.Analysed.{Surveyed};
 ghost use Rattle.merger.specs.Starts.{Sorted, Started};
 
-use crate::between::moves_between;
+use crate::between::write_moves;
 use crate::closure::close;
-use crate::labels::{alike_rows, facts_of, first_facts, label_classes};
+use crate::labels::{label_classes, write_alike, write_facts, write_first};
 use crate::partition::Partition;
 use crate::tables::{Found, Rounds};
 use components::{Walk, find_in_rows};
@@ -32,15 +32,17 @@ pub(crate) fn look_over<M: Model>(
     ensures sorted { Sorted found.new result }
 {
     let size = model.size() as usize;
-    let facts = facts_of(model);
-    let alike = alike_rows(rows, &label_classes(&facts, size));
+    let mut facts = [0; 128];
+    write_facts(model, &mut facts);
+    let mut alike = [Set::NONE; 128];
+    write_alike(rows, &label_classes(&facts, size), &mut alike);
     let parts = find_in_rows(&alike[..size], walks, states, &mut found.component).unwrap();
     let components = Partition::numbered(&found.component, size);
     found.states = model.size();
     found.words = model.words();
     found.components = parts.count as usize;
-    found.facts = first_facts(&facts, &components);
-    found.moves = moves_between(rows, &components);
+    write_first(&facts, &components, &mut found.facts);
+    write_moves(rows, &components, &mut found.moves);
     parts.order
 }
 
@@ -52,7 +54,8 @@ pub(crate) fn start(found: &Found, order: &[u8; 128], rounds: &mut Rounds)
     ensures { Started found.now rounds.new }
 {
     rounds.partition = label_classes(&found.facts, found.components);
-    let reach = close(&found.moves, &rounds.partition, order);
+    let mut reach = [Set::NONE; 128];
+    close(&found.moves, &rounds.partition, order, &mut reach);
     rounds.reach.fill(&reach, &rounds.partition);
     rounds.made = 0;
     rounds.settled = false;

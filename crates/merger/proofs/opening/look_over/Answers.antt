@@ -16,11 +16,11 @@ returns-clause-surveyed g c =
     let M = g.M.Model.means c.args.model.now in
     let e = c.size-size.ensures in
     let labels = c.label_classes.ensures in
-    let told = c.facts_of-facts.ensures in
-    let alike = linked_alike M c.args.rows.now c.requires.linked c.facts_of-facts.result told c.label_classes.result c.size-size.result e labels.len labels.numbers
-    c.alike_rows-alike.result c.alike_rows-alike.ensures in
+    let told = c.write_facts.ensures in
+    let alike = linked_alike M c.args.rows.now c.requires.linked c.write_facts.new.facts told c.label_classes.result c.size-size.result e labels.len labels.numbers
+    c.write_alike.new.alike c.write_alike.ensures in
     let few = c.requires.admitted.0.1 in
-    let answer = answers_front M c.alike_rows-alike.result c.size-size.result e (omega (arith, few, e)) (search rules) alike _ _ _ _ _ _ c.find_in_rows.result c.find_in_rows.ensures in
+    let answer = answers_front M c.write_alike.new.alike c.size-size.result e (omega (arith, few, e)) (search rules) alike _ _ _ _ _ _ c.find_in_rows.result c.find_in_rows.ensures in
     let found = rw c.unwrap-parts.ensures at answer in
     let K = found.1.components in
     let component = c.find_in_rows.new.part in
@@ -39,12 +39,12 @@ returns-clause-surveyed g c =
       words = c.words-found.ensures;
       facts = λ s h.
           let low = P.low s (omega arith) in
-          let first = c.first_facts-found.ensures (at P.class s) low in
-          spoken_words M (g.M.Model.formed c.args.model.now) component c.first_facts-found.result count K s h
-          (spoken_there M P component sized same c.first_facts-found.result s h (first.0, first.1.state, first.1.has, λ a. ap (λ x. words_of x a) first.2 ∙ told first.0 (omega (arith, first.1.state, sized)) a));
+          let first = c.write_first.ensures (at P.class s) low in
+          spoken_words M (g.M.Model.formed c.args.model.now) component c.write_first.new.first count K s h
+          (spoken_there M P component sized same c.write_first.new.first s h (first.0, first.1.state, first.1.has, λ a. ap (λ x. words_of x a) first.2 ∙ told first.0 (omega (arith, first.1.state, sized)) a));
       components = K;
       moves = λ k l h.
-          let m = c.moves_between-found.ensures k l (omega arith) in
+          let m = c.write_moves.ensures k l (omega arith) in
           let p = linked_passes M P component sized same c.args.rows.now c.requires.linked k l in
           ((λ o. p.0 (m.0 o)), (λ o. m.1 (p.1 o)));
     }
@@ -57,11 +57,11 @@ returns-clause-sorted g c =
     let n = c.size-size.result in
     let e = c.size-size.ensures in
     let few = c.requires.admitted.0.1 in
-    let rows = c.alike_rows-alike.result in
+    let rows = c.write_alike.new.alike in
     let wide : length rows ≡ 128 = search rules in
     let labels = c.label_classes.ensures in
-    let alike = linked_alike M c.args.rows.now c.requires.linked c.facts_of-facts.result c.facts_of-facts.ensures c.label_classes.result n e labels.len labels.numbers
-    rows c.alike_rows-alike.ensures in
+    let alike = linked_alike M c.args.rows.now c.requires.linked c.write_facts.new.facts c.write_facts.ensures c.label_classes.result n e labels.len labels.numbers
+    rows c.write_alike.ensures in
     sorted M _ S (take n rows) c.args.found.now.component c.unwrap-parts.result found
     (length-take-le n rows (omega (arith, wide, few, e)) ∙ e)
     refl

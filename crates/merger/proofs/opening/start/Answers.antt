@@ -5,8 +5,8 @@ use Rattle.merger.specs.Reaching.{On}
 use Rattle.merger.specs.Starts.{Inner}
 use Rattle.merger.proofs.opening.start.Goals as goal
 
-pub close-reach-requires : goal.close-reach-requires
-close-reach-requires c =
+pub close-requires : goal.close-requires
+close-requires c =
     let labels = c.label_classes-rounds.ensures in
     let same = labels.numbers.same in
     let len = labels.len in
@@ -32,7 +32,7 @@ returns c =
       items = labels.len;
       reach = λ k l h.
           let o = c.fill.ensures k l (omega arith) in
-          let m = c.close-reach.ensures k l (omega arith) in
+          let m = c.close.ensures k l (omega arith) in
           subst (λ n. On c.fill.new.self k l ↔ ((i : ℕ) × Trail (Inner c.args.found.now.moves P) (λ j. j < n) i k l)) labels.len
           ((λ e. m.0 (o.0 e)), (λ p. o.1 (m.1 p)));
     }

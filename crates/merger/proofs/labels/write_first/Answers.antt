@@ -1,6 +1,6 @@
 use Rattle.std.proofs.Common.{arith, rules}
 use Rattle.merger.specs.declared.partition.Partition.{Partition}
-use Rattle.merger.proofs.labels.first_facts.Goals as goal
+use Rattle.merger.proofs.labels.write_first.Goals as goal
 
 pub returns : goal.returns
 returns c k h =
@@ -8,4 +8,4 @@ returns c k h =
     let most = P.most in
     let few = P.few in
     let count = c.classes.ensures in
-    search (rules, c.table.ensures.made k 0 ((c.below.ensures k).1 (omega arith, omega arith)))
+    search (rules, c.write.ensures.made k 0 ((c.below.ensures k).1 (omega arith, omega arith)))
