@@ -18,14 +18,14 @@ fn ahead(moves: Set, classes: &Partition, from: usize) -> Set
     classes.classes_of(moves.minus(classes.mates_of(from)))
 }
 
-// Writes, for each component in `wanted`, the classes one move ahead of it; nothing for the others.
+// Writes, for each component in `wanted`, the classes one move ahead of it. Before that no row has anything.
 fn write_ahead(moves: &[Set; 128], classes: &Partition, wanted: Set, rows: &mut [Set; 128])
     requires wanted { (k : ℕ) → In wanted k → k < classes.now.len }
     requires inside { (k : ℕ) → In wanted k → (to : ℕ) → In (set_at moves.now k) to → to < classes.now.len }
+    requires blank { (k : ℕ) → set_at rows.old k ≡ none }
     ensures wanted { (k : ℕ) → In wanted k → (c : ℕ) → In (set_at rows.new k) c ↔ Ahead (In (set_at moves.now k)) (at classes.now.class) k c }
     ensures others { (k : ℕ) → (In wanted k → ⊥) → set_at rows.new k ≡ none }
 {
-    *rows = [Set::NONE; 128];
     write(rows, wanted, |k| ahead(moves[k], classes, k));
 }
 
@@ -45,8 +45,8 @@ fn write_unions(
     write(rows, places, |k| reach.union(k, ahead, classes));
 }
 
-// Writes, for each component in `wanted`, the classes one move ahead of what it reaches; nothing for the others. What is
-// reached from `wanted` is wanted too.
+// Writes, for each component in `wanted`, the classes one move ahead of what it reaches. What is reached from `wanted` is
+// wanted too, and before that no row has anything.
 // Kept: rows are written in place, since a table that is handed out is copied.
 pub(crate) fn write_outlooks(
     reach: &Reach,
@@ -58,6 +58,7 @@ pub(crate) fn write_outlooks(
     requires wanted { (k : ℕ) → In wanted k → k < classes.now.len }
     requires inside { (k : ℕ) → In wanted k → (to : ℕ) → In (set_at moves.now k) to → to < classes.now.len }
     requires closed { (k l : ℕ) → In wanted k → l < classes.now.len → On reach.now k l → In wanted l }
+    requires blank { (k : ℕ) → set_at rows.old k ≡ none }
     ensures { Outlooks rows.new reach.now moves.now classes.now wanted }
 {
     write_ahead(moves, classes, wanted, rows);

@@ -4,6 +4,8 @@ use Rattle.kripke.specs.Numbering.{Numbering}
 use Rattle.merger.specs.declared.partition.Partition.{Partition}
 use Rattle.merger.specs.Grids.{at}
 use Rattle.merger.specs.Tables.{Together}
+use Rattle.sets.specs.Sets.{none}
+use Rattle.merger.proofs.Blank.{blank}
 use Rattle.merger.proofs.Advancing.{numbering_as, wanted_low, wanted_reached, like_together, cut_parted}
 use Rattle.merger.proofs.advance.advance.Goals as goal
 
@@ -19,6 +21,7 @@ write_outlooks-requires c =
       wanted = wanted_low F S B w s;
       inside = λ k h to m. let low = wanted_low F S B w s k h in let l = B.moves k to (omega arith) m in omega arith;
       closed = wanted_reached F S B w s;
+      blank = λ k. blank 128 k none;
     }
 
 pub returns : goal.returns

@@ -2,6 +2,8 @@ use Rattle.std.proofs.Common.{refl, arith}
 use Rattle.std.proofs.lemmas.Bool.{both_ways}
 use Rattle.merger.specs.declared.partition.Partition.{Partition}
 use Rattle.merger.specs.declared.analysis.Analysis.{Analysis}
+use Rattle.sets.specs.Sets.{none}
+use Rattle.merger.proofs.Blank.{blank}
 use Rattle.merger.proofs.Rounding.{meant_bounded}
 use Rattle.merger.proofs.Promising.{tabled_settled}
 use Rattle.merger.proofs.Drawing.{outlook_low, drawn_fills}
@@ -30,6 +32,7 @@ write_outlooks-requires c =
       wanted = λ k h. omega (arith, ((w k).0 h).0);
       inside = λ k h to m. omega (arith, B.moves k to ((w k).0 h).0 m);
       closed = λ k l h b o. (w l).1 (omega arith, omega arith);
+      blank = λ k. blank 128 k none;
     }
 
 pub reduce-requires : goal.reduce-requires
