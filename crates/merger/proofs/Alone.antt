@@ -26,11 +26,11 @@ own n m f R (suc d) in' cover k l =
     ⊎_elim
     (λ e. subst (λ x. f x ≡ x) (sym e) top)
     (λ ne. own n m f R d (omega arith)
-        (λ i h.
-        let q = cover i (omega arith) in
-        let other : q.0 ≡ d → ⊥ = λ e. omega (arith, h, sym q.2 ∙ ap f e ∙ top) in
-        (q.0, omega (arith, q.1, other), q.2))
-        k (omega arith))
+    (λ i h.
+    let q = cover i (omega arith) in
+    let other : q.0 ≡ d → ⊥ = λ e. omega (arith, h, sym q.2 ∙ ap f e ∙ top) in
+    (q.0, omega (arith, q.1, other), q.2))
+    k (omega arith))
     (cases_eq k d)
 
 pub ranked_alone : (n : ℕ) (f : ℕ → ℕ) → Ranked n f n → (k : ℕ) → k < n → f k ≡ k

@@ -1,5 +1,5 @@
 -- Rows of numbers and of sets, a place for each component.
-use Rattle.std.specs.Prelude.{◌≡◌, ℕ, ◌%◌, ◌<◌, ◌⊎◌, ◌↔◌, List, ◌≢◌, slice_index, slice_index_or}
+use Rattle.std.specs.Prelude.{◌≡◌, ℕ, ◌*◌, ◌/◌, ◌%◌, ◌^◌, ◌<◌, ◌⊎◌, ◌↔◌, List, ◌≢◌, slice_index, slice_index_or}
 use Rattle.sets.specs.declared.Set.{Set}
 use Rattle.sets.specs.Sets.{In, none}
 
@@ -11,9 +11,9 @@ at row k = slice_index row k
 abbrev pub set_at : List Set → ℕ → Set
 set_at sets k = slice_index_or sets k none
 
--- a number below 127 that words have, the same for the same words
+-- a number below 128 that words have, the same for the same words: the high bits of a product
 abbrev pub slot : ℕ → ℕ
-slot words = words % 127
+slot words = words * 0x9E3779B97F4A7C15 % 2 ^ 64 / 2 ^ 57
 
 -- members has the items of each class, of those below count
 pub record Groups (members : List Set) (class : List ℕ) (count : ℕ) : Type 0 where

@@ -47,12 +47,12 @@ pub(crate) fn write_alike(rows: &[Set; 128], labels: &Partition, alike: &mut [Se
     );
 }
 
-// States or components by their words, numbered by the first of each.
+// Puts states or components together by their words, numbered by the first of each.
 // Kept: a table and a count; the type of a slice has no bound of 128, so the `requires` would stay.
-pub(crate) fn label_classes(facts: &[u64; 128], count: usize) -> Partition
+pub(crate) fn put_by_labels(facts: &[u64; 128], count: usize, labels: &mut Partition)
     requires { count ≤ 128 }
-    ensures len { result.len ≡ count }
-    ensures numbers { Numbering (λ j k. SameWords (words_of (at facts.now j)) (words_of (at facts.now k))) count (at result.class) result.classes }
+    ensures len { labels.new.len ≡ count }
+    ensures numbers { Numbering (λ j k. SameWords (words_of (at facts.now j)) (words_of (at facts.now k))) count (at labels.new.class) labels.new.classes }
 {
-    Partition::by_words(facts, count)
+    labels.by_words(facts, count);
 }

@@ -8,7 +8,7 @@ ghost use Rattle.merger.specs.Starts.{Sorted, Started};
 
 use crate::between::write_moves;
 use crate::closure::close;
-use crate::labels::{label_classes, write_alike, write_facts, write_first};
+use crate::labels::{put_by_labels, write_alike, write_facts, write_first};
 use crate::partition::Partition;
 use crate::tables::{Found, Rounds};
 use components::{Walk, find_in_rows};
@@ -34,10 +34,13 @@ pub(crate) fn look_over<M: Model>(
     let size = model.size() as usize;
     let mut facts = [0; 128];
     write_facts(model, &mut facts);
+    let mut labels = Partition::new();
+    put_by_labels(&facts, size, &mut labels);
     let mut alike = [Set::NONE; 128];
-    write_alike(rows, &label_classes(&facts, size), &mut alike);
+    write_alike(rows, &labels, &mut alike);
     let parts = find_in_rows(&alike[..size], walks, states, &mut found.component).unwrap();
-    let components = Partition::numbered(&found.component, size);
+    let mut components = Partition::new();
+    components.by_numbers(&found.component, size);
     found.states = model.size();
     found.words = model.words();
     found.components = parts.count as usize;
@@ -53,7 +56,7 @@ pub(crate) fn start(found: &Found, order: &[u8; 128], rounds: &mut Rounds)
     requires sorted { Sorted found.now order.now }
     ensures { Started found.now rounds.new }
 {
-    rounds.partition = label_classes(&found.facts, found.components);
+    put_by_labels(&found.facts, found.components, &mut rounds.partition);
     let mut reach = [Set::NONE; 128];
     close(&found.moves, &rounds.partition, order, &mut reach);
     rounds.reach.fill(&reach, &rounds.partition);

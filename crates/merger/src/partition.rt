@@ -24,11 +24,12 @@ pub(crate) struct Partition {
     ghost some: { (c : ℕ) → c < classes → (set_at members c).bits ≢ 0 },
 }
 
-// A number of words below 127, the same for the same words.
+// A number of words below 128, the same for the same words.
 fn slot_of(words: u64) -> usize
     ensures { result ≡ slot words }
 {
-    (words % 127) as usize
+    // the high bits of a product in which all words have a part
+    (words.wrapping_mul(0x9E37_79B9_7F4A_7C15) >> 57) as usize
 }
 
 // The first item that has the words of item `k`, of those before it, whose slots are in `seen`.
@@ -134,38 +135,46 @@ impl Partition {
         }
     }
 
-    // The items below `len`, in the classes that their numbers name.
-    pub(crate) fn numbered(number: &[u8; 128], len: usize) -> Partition
-        requires few { len ≤ 128 }
-        requires ranked { (m : ℕ) × Ranked len (at number.now) m }
-        ensures len { result.len ≡ len }
-        ensures same { (k : ℕ) → k < len → at result.class k ≡ at number.now k }
-        ensures ranked { Ranked len (at result.class) result.classes }
+    // Takes all items out.
+    fn clear(&mut self)
+        ensures { (self.new.len ≡ 0) × (self.new.classes ≡ 0) }
     {
-        let mut numbered = Partition::new();
-        for &class in &number[..len] {
-            numbered.put(class as usize);
-        }
-        numbered
+        self.len = 0;
+        self.classes = 0;
+        self.members = [Set::NONE; 128];
     }
 
-    // The items below `len`, those together that have the same words.
-    pub(crate) fn by_words(words: &[u64; 128], len: usize) -> Partition
-        requires { len ≤ 128 }
-        ensures len { result.len ≡ len }
-        ensures numbers { Numbering (λ j k. at words.now j ≡ at words.now k) len (at result.class) result.classes }
+    // Puts the items below `len` into the classes that their numbers name, in place of what was here.
+    // Kept: in place here and below, since a partition that is handed out is copied.
+    pub(crate) fn by_numbers(&mut self, number: &[u8; 128], len: usize)
+        requires few { len ≤ 128 }
+        requires ranked { (m : ℕ) × Ranked len (at number.now) m }
+        ensures len { self.new.len ≡ len }
+        ensures same { (k : ℕ) → k < len → at self.new.class k ≡ at number.now k }
+        ensures ranked { Ranked len (at self.new.class) self.new.classes }
     {
-        let mut parted = Partition::new();
+        self.clear();
+        for &class in &number[..len] {
+            self.put(class as usize);
+        }
+    }
+
+    // Puts the items below `len` together that have the same words, in place of what was here.
+    pub(crate) fn by_words(&mut self, words: &[u64; 128], len: usize)
+        requires { len ≤ 128 }
+        ensures len { self.new.len ≡ len }
+        ensures numbers { Numbering (λ j k. at words.now j ≡ at words.now k) len (at self.new.class) self.new.classes }
+    {
+        self.clear();
         let mut seen = Set::NONE;
         for k in 0..len {
             let into = match first_like(words, seen, k) {
-                Some(j) => parted.class_of(j),
-                None => parted.classes(),
+                Some(j) => self.class_of(j),
+                None => self.classes(),
             };
             seen = seen.with(slot_of(words[k]));
-            parted.put(into);
+            self.put(into);
         }
-        parted
     }
 
     // Parts the items of a class that have other rows.

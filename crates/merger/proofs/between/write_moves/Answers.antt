@@ -15,9 +15,9 @@ returns-then-classes-len c k l h =
     let own = ranked_alone P.len (at P.class) (subst (λ m. Ranked P.len (at P.class) m) all c.requires.ranked) in (
       (λ o. (k, l, omega arith, o, own k (omega arith), own l (c.requires.inside k l (omega arith) o))),
       (λ p.
-      let s : p.0 ≡ k = sym (own p.0 p.2) ∙ p.4 in
-      let t : p.1 ≡ l = sym (own p.1 (c.requires.inside p.0 p.1 p.2 p.3)) ∙ p.5 in
-      subst (λ x. In (set_at rows x) l) s (subst (In (set_at rows p.0)) t p.3)),
+          let s : p.0 ≡ k = sym (own p.0 p.2) ∙ p.4 in
+          let t : p.1 ≡ l = sym (own p.1 (c.requires.inside p.0 p.1 p.2 p.3)) ∙ p.5 in
+          subst (λ x. In (set_at rows x) l) s (subst (In (set_at rows p.0)) t p.3)),
     )
 
 pub returns : goal.returns

@@ -15,9 +15,9 @@ pub returns-clause-surveyed : goal.returns-clause-surveyed
 returns-clause-surveyed g c =
     let M = g.M.Model.means c.args.model.now in
     let e = c.size-size.ensures in
-    let labels = c.label_classes.ensures in
+    let labels = c.put_by_labels.ensures in
     let told = c.write_facts.ensures in
-    let alike = linked_alike M c.args.rows.now c.requires.linked c.write_facts.new.facts told c.label_classes.result c.size-size.result e labels.len labels.numbers
+    let alike = linked_alike M c.args.rows.now c.requires.linked c.write_facts.new.facts told c.put_by_labels.new.labels c.size-size.result e labels.len labels.numbers
     c.write_alike.new.alike c.write_alike.ensures in
     let few = c.requires.admitted.0.1 in
     let answer = answers_front M c.write_alike.new.alike c.size-size.result e (omega (arith, few, e)) (search rules) alike _ _ _ _ _ _ c.find_in_rows.result c.find_in_rows.ensures in
@@ -25,8 +25,8 @@ returns-clause-surveyed g c =
     let K = found.1.components in
     let component = c.find_in_rows.new.part in
     let count = c.unwrap-parts.result.count in
-    let P : Partition = c.numbered-components.result in
-    let n = c.numbered-components.ensures in
+    let P : Partition = c.by_numbers.new.self in
+    let n = c.by_numbers.ensures in
     let sized : P.len ≡ M.frame.size = n.len ∙ e in
     let same : (s : ℕ) → s < M.frame.size → at P.class s ≡ at component s = λ s h. n.same s (omega arith) in
     let counted : count ≡ P.classes = ranked_count M.frame.size count P.classes (at component) (at P.class) K.ranked
@@ -59,8 +59,8 @@ returns-clause-sorted g c =
     let few = c.requires.admitted.0.1 in
     let rows = c.write_alike.new.alike in
     let wide : length rows ≡ 128 = search rules in
-    let labels = c.label_classes.ensures in
-    let alike = linked_alike M c.args.rows.now c.requires.linked c.write_facts.new.facts c.write_facts.ensures c.label_classes.result n e labels.len labels.numbers
+    let labels = c.put_by_labels.ensures in
+    let alike = linked_alike M c.args.rows.now c.requires.linked c.write_facts.new.facts c.write_facts.ensures c.put_by_labels.new.labels n e labels.len labels.numbers
     rows c.write_alike.ensures in
     sorted M _ S (take n rows) c.args.found.now.component c.unwrap-parts.result found
     (length-take-le n rows (omega (arith, wide, few, e)) ∙ e)

@@ -7,7 +7,7 @@ use Rattle.merger.proofs.opening.start.Goals as goal
 
 pub close-requires : goal.close-requires
 close-requires c =
-    let labels = c.label_classes-rounds.ensures in
+    let labels = c.put_by_labels.ensures in
     let same = labels.numbers.same in
     let len = labels.len in
     record {
@@ -22,8 +22,8 @@ close-requires c =
 
 pub returns : goal.returns
 returns c =
-    let P : Partition = c.label_classes-rounds.result in
-    let labels = c.label_classes-rounds.ensures in
+    let P : Partition = c.put_by_labels.new.labels in
+    let labels = c.put_by_labels.ensures in
     let len = labels.len in
     record {
       made = refl;

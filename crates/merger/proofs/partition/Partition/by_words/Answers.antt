@@ -9,7 +9,7 @@ use Rattle.merger.proofs.partition.Partition.by_words.Goals.{in-Some, in-None}
 pub loop-k-preserved : goal.loop-k-preserved
 loop-k-preserved c =
     let words = c.args.words.now in
-    let P : Partition = c.loop-k.parted in
+    let P : Partition = c.loop-k.self in
     let P' : Partition = c.put.new.self in
     let k = c.loop-k.k in
     let i = c.loop-k.invariant in

@@ -4,7 +4,7 @@ use Rattle.merger.specs.Grids.{at}
 use Rattle.merger.specs.Tables.{words_of}
 use Rattle.merger.proofs.Advancing.{numbering_as}
 use Rattle.merger.proofs.Speaking.{same_words}
-use Rattle.merger.proofs.labels.label_classes.Goals as goal
+use Rattle.merger.proofs.labels.put_by_labels.Goals as goal
 
 pub returns-clause-numbers : goal.returns-clause-numbers
 returns-clause-numbers c =

@@ -4,7 +4,7 @@ use Rattle.std.proofs.lemmas.List.{length-take, get_or-take}
 use Rattle.merger.specs.declared.partition.Partition.{Partition}
 use Rattle.merger.specs.Grids.{at}
 use Rattle.merger.proofs.Joining.{ranked_more, next_there}
-use Rattle.merger.proofs.partition.Partition.numbered.Goals as goal
+use Rattle.merger.proofs.partition.Partition.by_numbers.Goals as goal
 
 pub put-requires-clause-class : goal.put-requires-clause-class
 put-requires-clause-class c =
@@ -12,11 +12,11 @@ put-requires-clause-class c =
     let k = c.loop-class.class-index in
     let number = c.args.number.now in
     let low : k < c.args.len = omega (arith, length-take c.args.len number) in
-    omega (arith, get_or-take c.args.len number k 0 low, next_there c.loop-class.numbered number c.args.len c.requires.ranked.0 k c.requires.ranked.1 low i.items i.same)
+    omega (arith, get_or-take c.args.len number k 0 low, next_there c.loop-class.self number c.args.len c.requires.ranked.0 k c.requires.ranked.1 low i.items i.same)
 
 pub loop-class-preserved : goal.loop-class-preserved
 loop-class-preserved c =
-    let P : Partition = c.loop-class.numbered in
+    let P : Partition = c.loop-class.self in
     let P' : Partition = c.put.new.self in
     let k = c.loop-class.class-index in
     let number = c.args.number.now in
