@@ -1,7 +1,7 @@
 -- Words as numbers of 64 bits: they are the same where the numbers are.
-use Rattle.std.proofs.Common.{◌≡◌, ℕ, ◌^◌, ◌<◌, ◌&&◌, ltb, ◌↔◌, ap}
+use Rattle.std.proofs.Common.{◌≡◌, ℕ, ◌^◌, ◌<◌, ◌↔◌, ap}
 use Rattle.std.proofs.lemmas.Bool.{lt-ltb}
-use Rattle.kripke.specs.Words.{SameWords, bit}
+use Rattle.kripke.specs.Words.{SameWords}
 use Rattle.models.proofs.Bits.{same_from_bits}
 use Rattle.merger.specs.Tables.{words_of}
 

@@ -1,9 +1,24 @@
 //! One round on the tables.
+ghost use Rattle.std.specs.Prelude.{◌≡◌, ℕ, ◌<◌, false};
+ghost use Rattle.merger.specs.Grids.{at};
+ghost use Rattle.merger.specs.Reaching.{On, Narrowed};
 ghost use Rattle.merger.specs.Tables.{Bounded, Advanced};
 
 use crate::ahead::write_outlooks;
+use crate::partition::Partition;
+use crate::reach::Reach;
 use crate::tables::{Found, Rounds};
 use sets::Set;
+
+// Clears the pairs of components that are in two classes, where some are parted.
+fn narrow(reach: &mut Reach, classes: &Partition, parted: bool)
+    requires { parted ≡ false → (k l : ℕ) → k < classes.now.len → l < classes.now.len → On reach.old k l → at classes.now.class l ≡ at classes.now.class k }
+    ensures { Narrowed reach.old reach.new classes.now }
+{
+    if parted {
+        reach.narrow(classes);
+    }
+}
 
 // Makes one more round. A component that is alone in its class is parted from nothing, so that it need not be looked at.
 pub(crate) fn advance(found: &Found, rounds: &mut Rounds)
@@ -21,7 +36,7 @@ pub(crate) fn advance(found: &Found, rounds: &mut Rounds)
     );
     let before = rounds.partition.classes();
     rounds.partition.refine(&rows);
-    rounds.reach.narrow(&rounds.partition);
     rounds.settled = rounds.partition.classes() == before;
+    narrow(&mut rounds.reach, &rounds.partition, !rounds.settled);
     rounds.made += 1;
 }

@@ -1,4 +1,4 @@
-use Rattle.std.proofs.Common.{◌≡◌, ℕ, ◌<◌, sym, ◌∙◌, subst, arith, rules}
+use Rattle.std.proofs.Common.{◌≡◌, sym, ◌∙◌, subst, arith, rules}
 use Rattle.sets.specs.Sets.{In, none}
 use Rattle.kripke.specs.Numbering.{Ranked}
 use Rattle.merger.specs.declared.partition.Partition.{Partition}

@@ -1,4 +1,4 @@
-use Rattle.std.proofs.Common.{◌≡◌, ℕ, ◌^◌, ◌<◌, arith, rules}
+use Rattle.std.proofs.Common.{◌≡◌, ℕ, ◌^◌, ◌<◌, rules}
 use Rattle.kripke.specs.Words.{SameWords}
 use Rattle.merger.specs.Grids.{at}
 use Rattle.merger.specs.Tables.{words_of}

@@ -1,4 +1,4 @@
-use Rattle.std.proofs.Common.{ℕ, ◌<◌, sym, inl, inr, ◌∙◌, arith, below_more}
+use Rattle.std.proofs.Common.{sym, inl, inr, ◌∙◌, arith, below_more}
 use Rattle.sets.specs.Sets.{In}
 use Rattle.merger.specs.declared.partition.Partition.{Partition}
 use Rattle.merger.specs.Grids.{at, slot}
