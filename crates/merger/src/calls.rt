@@ -60,8 +60,10 @@ impl Analysis {
         if walks.len() < size || states.len() < size {
             return Err(OpenRefusal::ShortScratch);
         }
-        let rows = rows_of(model)?;
-        let order = look_over(&mut self.found, model, &rows, walks, states);
+        // lent, since it is copied where it is moved out of the answer
+        let surveyed = rows_of(model);
+        let rows = surveyed.as_ref().map_err(|gap| *gap)?;
+        let order = look_over(&mut self.found, model, rows, walks, states);
         start(&self.found, &order, &mut self.rounds);
         self.found.labels = self.rounds.partition.classes();
         self.opened = true;

@@ -1,4 +1,4 @@
-use Rattle.std.proofs.Common.{refl, arith}
+use Rattle.std.proofs.Common.{refl, arith, rules}
 use Rattle.std.proofs.lemmas.Result.{err_from_is_err_and}
 use Rattle.kripke.proofs.Ranking.{ranked_few}
 use Rattle.merger.specs.Tables.{part}
@@ -29,7 +29,7 @@ returns g c =
     let T = begun M c.look_over-order.new.found c.start.new.rounds c.classes-self.result c.classes-self.ensures c.look_over-order.ensures.surveyed c.start.ensures in
     let e = c.in_ok-size.ensures.0 in (
       record {
-        admitted = c.in_ok-rows.ensures.0;
+        admitted = search rules;
         roomy = (omega arith, omega arith);
         states = T.surveyed.states;
         components = (part c.look_over-order.new.found, T.surveyed.components);
