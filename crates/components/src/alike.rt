@@ -8,6 +8,7 @@ ghost use Rattle.components.specs.Alike.{silent, Told, AlikeMoves};
 use models::facts::Facts;
 use models::{Label, Model};
 use sets::Set;
+use sets::gathering::Gathering;
 
 // The words of each state.
 fn words_of<M: Model>(model: &M) -> [Facts; 128]
@@ -37,13 +38,13 @@ fn row_of<M: Model>(model: &M, words: &[Facts; 128], s: u16) -> Set
 {
     let words = &words[..model.size() as usize];
     let own = words[s as usize];
-    let mut row = Set::NONE;
+    let mut row = Gathering::new();
     for t in model.moves(s) {
         if has_words(words, t, own) {
-            row = row.with(t as usize);
+            row.add(t as usize);
         }
     }
-    row
+    row.set()
 }
 
 // For each state, the states that it moves to and that are alike to it.

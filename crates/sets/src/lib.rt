@@ -1,9 +1,11 @@
 //! Sets of numbers below 128, one bit of a 128-bit word for each.
 #![tactic(auto)]
 
-ghost use Rattle.std.specs.Prelude.{◌≡◌, ℕ, ◌<◌, ◌≤◌, ◌⊎◌, ◌↔◌, length, Decides, MatchOption, ◌≢◌, slice_get};
+ghost use Rattle.std.specs.Prelude.{◌≡◌, ℕ, ◌+◌, ◌*◌, ◌^◌, ◌<◌, ◌≤◌, ◌⊎◌, ◌↔◌, length, Decides, MatchOption, ◌≢◌, slice_get};
 ghost use Rattle.std.specs.Iterator.{at_most};
 ghost use Rattle.sets.specs.Sets.{bit, In, Splits, members};
+
+pub mod gathering;
 
 #[derive(Clone, Copy, PartialEq, Eq)]
 pub struct Set {
@@ -27,6 +29,15 @@ impl Set {
         ensures { (j : ℕ) → In result j ↔ ((j < 64) × (bit bits j ≡ 1)) }
     {
         Set { bits: bits as u128 }
+    }
+
+    // The numbers of the bits that are set in either half: `low` has those from 0 to 63, and `high` those from 64 on.
+    pub(crate) fn from_halves(low: u64, high: u64) -> Set
+        ensures { result.bits ≡ low + high * 2 ^ 64 }
+    {
+        Set {
+            bits: (high as u128) << 64 | low as u128,
+        }
     }
 
     /// All numbers below `n`; from 128 up no number is in a set.

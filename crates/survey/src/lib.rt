@@ -9,6 +9,7 @@ use gaps::Gap;
 use kripke::NOWHERE;
 use models::Model;
 use sets::Set;
+use sets::gathering::Gathering;
 
 pub mod gaps;
 
@@ -47,7 +48,7 @@ fn row_of<M: Model>(m: &M, s: u16) -> Result<Set, Gap>
     requires below { TotalBelow (M.Model.means m.now).frame s }
     ensures { MatchResult result (λ x. TotalRow (M.Model.means m.now).frame.size ((M.Model.means m.now).frame.row s) × RowIs (M.Model.means m.now).frame s x) (Gaps (M.Model.means m.now).frame) }
 {
-    let mut row = Set::NONE;
+    let mut row = Gathering::new();
     for (k, t) in m.moves(s).enumerate() {
         if t == NOWHERE {
             return Err(Gap::Nowhere {
@@ -55,8 +56,9 @@ fn row_of<M: Model>(m: &M, s: u16) -> Result<Set, Gap>
                 number: k as u16,
             });
         }
-        row = row.with(t as usize);
+        row.add(t as usize);
     }
+    let row = row.set();
     if row == Set::NONE {
         return Err(Gap::EmptyRow { state: s });
     }

@@ -19,7 +19,7 @@ loop-k-preserved g c =
     rw step.2 (
       at.2,
       clear_more row k c.in-Some.t at.1 c.if-t-eq-NOWHERE.false inv.1,
-      begun_more row k c.in-Some.t c.loop-k.row c.with-row.result at.1 (omega (arith, c.requires.sized.1)) inv.2 c.with-row.ensures,
+      begun_more row k c.in-Some.t c.loop-k.row c.add.new.self at.1 (omega (arith, c.requires.sized.1)) inv.2 c.add.ensures,
       λ none. absurd (omega arith),
     )
 
@@ -41,4 +41,4 @@ returns g c =
     let inv = c.loop-k.invariant in
     let left : drop k row ≡ [] = cc c.in-None.ensures.steps.0.0 in
     let some : 0 < k = search rules in
-    row_done F (g.M.Model.formed c.args.m.now).frame c.args.s c.loop-k.row k c.requires.state (move_none row k left) some inv.1 inv.2
+    rw c.set-row.ensures (row_done F (g.M.Model.formed c.args.m.now).frame c.args.s c.loop-k.row k c.requires.state (move_none row k left) some inv.1 inv.2)

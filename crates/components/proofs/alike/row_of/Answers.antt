@@ -13,7 +13,7 @@ loop-t-preserved-then-has_words g c =
     let inv = c.loop-t.invariant in
     let step = move_next (M.frame.row s) inv.0 c.in-Some.t c.next.new.self (sym inv.1 ∙ c.in-Some.ensures.steps) in
     let like = (near M c.args.words.now c.size.result c.size.ensures (omega (arith, length-take c.size.result c.args.words.now, c.requires.few, c.size.ensures)) c.requires.told s c.in-Some.t c.requires.state).0 (c.has_words.ensures.0 c.if-has_words.true) in
-    (inv.0 + 1, step.2, begun_alike M s inv.0 c.in-Some.t _ _ c.requires.few step.1 like c.with-row.ensures inv.2)
+    (inv.0 + 1, step.2, begun_alike M s inv.0 c.in-Some.t _ _ c.requires.few step.1 like c.add.ensures inv.2)
 
 pub loop-t-preserved : goal.loop-t-preserved
 loop-t-preserved g c =
@@ -28,4 +28,4 @@ pub returns : goal.returns
 returns g c =
     let M = g.M.Model.means c.args.model.now in
     let inv = c.loop-t.invariant in
-    begun_all M c.args.s inv.0 _ c.requires.few (move_none _ inv.0 (sym inv.1 ∙ c.in-None.ensures.steps.0)) inv.2
+    rw c.set.ensures (begun_all M c.args.s inv.0 _ c.requires.few (move_none _ inv.0 (sym inv.1 ∙ c.in-None.ensures.steps.0)) inv.2)
