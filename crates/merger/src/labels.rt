@@ -47,10 +47,11 @@ pub(crate) fn write_alike(rows: &[Set; 128], labels: &Partition, alike: &mut [Se
     );
 }
 
-// Puts states or components together by their words, numbered by the first of each.
+// Puts states or components together by their words, numbered by the first of each, where none are yet.
 // Kept: a table and a count; the type of a slice has no bound of 128, so the `requires` would stay.
 pub(crate) fn put_by_labels(facts: &[u64; 128], count: usize, labels: &mut Partition)
-    requires { count ≤ 128 }
+    requires few { count ≤ 128 }
+    requires empty { (labels.old.len ≡ 0) × (labels.old.classes ≡ 0) }
     ensures len { labels.new.len ≡ count }
     ensures numbers { Numbering (λ j k. SameWords (words_of (at facts.now j)) (words_of (at facts.now k))) count (at labels.new.class) labels.new.classes }
 {

@@ -56,6 +56,7 @@ pub(crate) fn start(found: &Found, order: &[u8; 128], rounds: &mut Rounds)
     requires sorted { Sorted found.now order.now }
     ensures { Started found.now rounds.new }
 {
+    rounds.partition.clear();
     put_by_labels(&found.facts, found.components, &mut rounds.partition);
     let mut reach = [Set::NONE; 128];
     close(&found.moves, &rounds.partition, order, &mut reach);

@@ -136,7 +136,7 @@ impl Partition {
     }
 
     // Takes all items out.
-    fn clear(&mut self)
+    pub(crate) fn clear(&mut self)
         ensures { (self.new.len ≡ 0) × (self.new.classes ≡ 0) }
     {
         self.len = 0;
@@ -144,28 +144,28 @@ impl Partition {
         self.members = [Set::NONE; 128];
     }
 
-    // Puts the items below `len` into the classes that their numbers name, in place of what was here.
+    // Puts the items below `len` into the classes that their numbers name; none are here yet.
     // Kept: in place here and below, since a partition that is handed out is copied.
     pub(crate) fn by_numbers(&mut self, number: &[u8; 128], len: usize)
         requires few { len ≤ 128 }
+        requires empty { (self.old.len ≡ 0) × (self.old.classes ≡ 0) }
         requires ranked { (m : ℕ) × Ranked len (at number.now) m }
         ensures len { self.new.len ≡ len }
         ensures same { (k : ℕ) → k < len → at self.new.class k ≡ at number.now k }
         ensures ranked { Ranked len (at self.new.class) self.new.classes }
     {
-        self.clear();
         for &class in &number[..len] {
             self.put(class as usize);
         }
     }
 
-    // Puts the items below `len` together that have the same words, in place of what was here.
+    // Puts the items below `len` together that have the same words; none are here yet.
     pub(crate) fn by_words(&mut self, words: &[u64; 128], len: usize)
-        requires { len ≤ 128 }
+        requires few { len ≤ 128 }
+        requires empty { (self.old.len ≡ 0) × (self.old.classes ≡ 0) }
         ensures len { self.new.len ≡ len }
         ensures numbers { Numbering (λ j k. at words.now j ≡ at words.now k) len (at self.new.class) self.new.classes }
     {
-        self.clear();
         let mut seen = Set::NONE;
         for k in 0..len {
             let into = match first_like(words, seen, k) {
