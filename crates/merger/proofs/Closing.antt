@@ -1,125 +1,81 @@
--- What components reach inside their class, one inner component after the other.
-use Rattle.std.proofs.Common.{◌≡◌, ℕ, zero, suc, ◌<◌, ◌⊎◌, ◌↔◌, List, length, set, sym, refl, ap, subst, inl, inr, ⊎_elim, arith}
+-- What components reach inside their class, known of one component after the other.
+use Rattle.std.proofs.Common.{◌≡◌, ℕ, zero, suc, ◌+◌, ◌<◌, ◌≤◌, ◌⊎◌, ◌↔◌, List, length, set, sym, ap, ◌∙◌, subst, inl, inr, ⊎_elim, arith, below_more}
 use Rattle.std.proofs.lemmas.Bool.{cases_eq}
 use Rattle.std.proofs.lemmas.List.{get_or-set_same, get_or-set_other}
 use Rattle.sets.specs.declared.Set.{Set}
 use Rattle.sets.specs.Sets.{In, none}
 use Rattle.kripke.specs.Paths.{Trail}
 use Rattle.merger.specs.declared.partition.Partition.{Partition}
-use Rattle.merger.specs.Grids.{at, set_at, Several}
-use Rattle.merger.specs.Starts.{Inner}
-use Rattle.merger.proofs.Blank.{after_set}
+use Rattle.merger.specs.Grids.{at, set_at}
+use Rattle.merger.specs.Starts.{Inner, Behind}
 
 -- component l is reached from component k inside their class
 abbrev pub Reaches : List Set → Partition → ℕ → ℕ → Type 0
 Reaches moves P k l = (n : ℕ) × Trail (Inner moves P) (λ j. j < P.len) n k l
 
--- the sets at those of places that are no more in left have what is in more besides
-pub record Adding (sets sets' : List Set) (places more left : Set) : Type 0 where
-  pub inside : (k : ℕ) → In left k → In places k
-  pub each : (k l : ℕ) → In (set_at sets' k) l ↔ (In (set_at sets k) l ⊎ (In places k × (In left k → ⊥) × In more l))
+-- row k of a table has what component k reaches
+abbrev pub Right : List Set → Partition → List Set → ℕ → Type 0
+Right moves P reach k = (l : ℕ) → In (set_at reach k) l ↔ Reaches moves P k l
 
-pub adding_none : (sets : List Set) (places more : Set) → Adding sets sets places more places
-adding_none sets places more = record { inside = λ k h. h; each = λ k l. (inl, λ h. ⊎_elim (λ o. o) (λ p. absurd (p.1 p.0)) h) }
+-- what is known of the first c components in order
+abbrev pub Known : List Set → Partition → List ℕ → List Set → ℕ → Type 0
+Known moves P order reach c = (d : ℕ) → d < c → Right moves P reach (at order d)
 
-pub adding_more : (sets sets' : List Set) (places more left : Set) (k : ℕ) (rest x : Set) → Adding sets sets' places more left → Splits left k rest → k < length sets' →
-    ((l : ℕ) → In x l ↔ (In (set_at sets' k) l ⊎ In more l)) → Adding sets (set sets' k x) places more rest
-adding_more sets sets' places more left k rest x A S room joined = record {
-  inside = λ j h. A.inside j ((S.others j).0 h).0;
-  each = λ j l. after_set none sets' k x room
-      (λ j z. In z l ↔ (In (set_at sets j) l ⊎ (In places j × (In rest j → ⊥) × In more l))) (
-        (λ h. ⊎_elim
-            (λ was. ⊎_elim inl (λ p. absurd (p.1 S.has)) ((A.each k l).0 was))
-            (λ new. inr (A.inside k S.has, (λ r. ((S.others k).0 r).1 refl), new))
-            ((joined l).0 h)),
-        (λ h. (joined l).1 (⊎_elim (λ o. inl ((A.each k l).1 (inl o))) (λ p. inr p.2) h)),
-      )
-      (λ j other. (
-        (λ h. ⊎_elim inl (λ p. inr (p.0, (λ r. p.1 ((S.others j).0 r).0), p.2)) ((A.each j l).0 h)),
-        (λ h. (A.each j l).1 (⊎_elim inl (λ p. inr (p.0, (λ r. p.1 ((S.others j).1 (r, other))), p.2)) h)),
-      ))
-      j;
-}
+module _ (moves : List Set) (P : Partition) (k : ℕ) (low : k < P.len) (next : Set)
+    (is-next : (m : ℕ) → In next m ↔ (In (set_at moves k) m × ((m < P.len) × (at P.class m ≡ at P.class k) × (m ≡ k → ⊥)))) where
+  module _ (reach : List Set) (right : (m : ℕ) → In next m → Right moves P reach m) where
+    -- a trail stays, or goes over some other component that k moves to
+    way : (l n : ℕ) → Trail (Inner moves P) (λ j. j < P.len) n k l → ((m : ℕ) × In next m × In (set_at reach m) l) ⊎ (l ≡ k)
+    way l zero t = inr (sym t.0)
+    way l (suc n) t = ⊎_elim
+        (λ e. way l n (subst (λ u. Trail (Inner moves P) (λ j. j < P.len) n u l) e t.3))
+        (λ ne.
+        let i = t.2 in
+        let m : In next t.0 = (is-next t.0).1 (⊎_elim (λ e. absurd (ne e)) (λ h. h) i.3, (i.1, sym i.2, ne)) in
+        inl (t.0, m, (right t.0 m l).1 (n, t.3)))
+        (cases_eq t.0 k)
 
-pub adding_all : (sets sets' : List Set) (places more left : Set) → ((k : ℕ) → In left k → ⊥) → Adding sets sets' places more left →
-    (k l : ℕ) → In (set_at sets' k) l ↔ (In (set_at sets k) l ⊎ (In places k × In more l))
-adding_all sets sets' places more left empty A k l = (
-  (λ h. ⊎_elim inl (λ p. inr (p.0, p.2)) ((A.each k l).0 h)),
-  (λ h. (A.each k l).1 (⊎_elim inl (λ p. inr (p.0, empty k, p.1)) h)),
-)
+    -- what k reaches is itself, and what those reach that it moves to
+    pub reaches_next : (x : Set) → ((l : ℕ) → In x l ↔ (((m : ℕ) × In next m × In (set_at reach m) l) ⊎ ((l ≡ k) × (k < 128)))) →
+        (l : ℕ) → In x l ↔ Reaches moves P k l
+    reaches_next x is l = (
+      (λ h. ⊎_elim
+          (λ p.
+          let m = (is-next p.0).0 p.1 in
+          let r = (right p.0 p.1 l).0 p.2 in
+          (suc r.0, (p.0, low, (low, m.1.0, sym m.1.1, inr m.0), r.1)))
+          (λ e. (zero, (sym e.0, low)))
+          ((is l).0 h)),
+      (λ p. (is l).1 (⊎_elim inl (λ e. inr (e, let few = P.few in omega (arith, low))) (way l p.0 p.1))),
+    )
 
--- the sets below n are turned
-abbrev pub Turned : List Set → List Set → ℕ → Type 0
-Turned sets turned n = (k l : ℕ) → In (set_at turned l) k ↔ ((k < n) × In (set_at sets k) l)
+-- component k stands at place c of the order
+module _ (moves : List Set) (P : Partition) (order : List ℕ) (reach : List Set) (c k : ℕ) (is : k ≡ at order c) (known : Known moves P order reach c) where
+  -- then those that it moves to are known
+  pub next_known : Behind moves P order → c < P.len → (next : Set) →
+      ((m : ℕ) → In next m ↔ (In (set_at moves k) m × ((m < P.len) × (at P.class m ≡ at P.class k) × (m ≡ k → ⊥)))) →
+      (m : ℕ) → In next m → Right moves P reach m
+  next_known B lc next is-next m h =
+      let i = (is-next m).0 h in
+      let p = B.each m i.1.0 in
+      let late = B.later k m c p.0 i.0 (sym i.1.1) lc p.1 (sym is) p.2 in
+      let earlier : p.0 < c = ⊎_elim (λ e. absurd (i.1.2 (sym p.2 ∙ ap (at order) e ∙ sym is))) (λ ne. omega (arith, late)) (cases_eq p.0 c) in
+      subst (Right moves P reach) p.2 (known p.0 earlier)
 
--- what a pass leaves
-abbrev pub Through : List Set → ℕ → List Set → Type 0
-Through reach mid reach' = (k l : ℕ) → In (set_at reach' k) l ↔ (In (set_at reach k) l ⊎ (In (set_at reach k) mid × In (set_at reach mid) l))
+  -- and so is one more
+  pub known_more : (x : Set) → k < length reach → ((l : ℕ) → In x l ↔ Reaches moves P k l) → Known moves P order (set reach k x) (c + 1)
+  known_more x room new =
+      let put : Right moves P (set reach k x) k = subst (λ (y : Set). (l : ℕ) → In y l ↔ Reaches moves P k l) (sym (get_or-set_same reach k x none room)) new in
+      below_more (λ d. Right moves P (set reach k x) (at order d)) c
+      (λ d l. ⊎_elim
+      (λ e. subst (Right moves P (set reach k x)) (sym e) put)
+      (λ ne. subst (λ (y : Set). (j : ℕ) → In y j ↔ Reaches moves P (at order d) j) (sym (get_or-set_other reach k (at order d) x none ne)) (known d l))
+      (cases_eq (at order d) k))
+      (subst (Right moves P (set reach k x)) is put)
 
-module _ (reach into : List Set) (mid : ℕ) (own : In (set_at reach mid) mid) (turns : (k l : ℕ) → In (set_at into l) k ↔ In (set_at reach k) l) where
-  -- a side that has only mid
-  pub through_none : (Several (set_at reach mid) → ⊥) ⊎ (Several (set_at into mid) → ⊥) → Through reach mid reach
-  through_none one k l = (
-    inl,
-    λ h. ⊎_elim (λ o. o) (λ p. ⊎_elim
-        (λ beyond. ⊎_elim
-        (λ e. subst (λ i. In (set_at reach k) i) (sym e) p.0)
-        (λ other. absurd (beyond (l, mid, p.1, own, other)))
-        (cases_eq l mid))
-        (λ before. ⊎_elim
-        (λ e. subst (λ i. In (set_at reach i) l) (sym e) p.1)
-        (λ other. absurd (before (k, mid, (turns k mid).1 p.0, (turns mid mid).1 own, other)))
-        (cases_eq k mid))
-        one) h,
-  )
-
-  pub through_all : (reach' : List Set) → ((k l : ℕ) → In (set_at reach' k) l ↔ (In (set_at reach k) l ⊎ (In (set_at into mid) k × In (set_at reach mid) l))) →
-      Through reach mid reach'
-  through_all reach' added k l = (
-    (λ h. ⊎_elim inl (λ p. inr ((turns k mid).0 p.0, p.1)) ((added k l).0 h)),
-    (λ h. (added k l).1 (⊎_elim inl (λ p. inr ((turns k mid).1 p.0, p.1)) h)),
-  )
-
-  pub turns_on : (reach' into' : List Set) → ((k l : ℕ) → In (set_at reach' k) l ↔ (In (set_at reach k) l ⊎ (In (set_at into mid) k × In (set_at reach mid) l))) →
-      ((l k : ℕ) → In (set_at into' l) k ↔ (In (set_at into l) k ⊎ (In (set_at reach mid) l × In (set_at into mid) k))) →
-      (k l : ℕ) → In (set_at into' l) k ↔ In (set_at reach' k) l
-  turns_on reach' into' added turned k l = (
-    (λ h. (added k l).1 (⊎_elim (λ o. inl ((turns k l).0 o)) (λ p. inr (p.1, p.0)) ((turned l k).0 h))),
-    (λ h. (turned l k).1 (⊎_elim (λ o. inl ((turns k l).1 o)) (λ p. inr (p.1, p.0)) ((added k l).0 h))),
-  )
-
-module _ (moves : List Set) (P : Partition) where
-  abbrev E : ℕ → ℕ → Type 0
-  E = Inner moves P
-
-  pub via_own : (m k : ℕ) → k < P.len → Via E m k k
-  via_own zero k h = (h, h, refl, inl refl)
-  via_own (suc m) k h = inl (via_own m k h)
-
-  -- one more inner component
-  pub via_pass : (reach reach' : List Set) (mid : ℕ) → mid < P.len →
-      ((k l : ℕ) → k < P.len → In (set_at reach k) l ↔ Via E mid k l) → Through reach mid reach' →
-      (k l : ℕ) → k < P.len → In (set_at reach' k) l ↔ Via E (suc mid) k l
-  via_pass reach reach' mid h V T k l b = (
-    (λ o. ⊎_elim (λ p. inl ((V k l b).0 p)) (λ p. inr ((V k mid b).0 p.0, (V mid l h).0 p.1)) ((T k l).0 o)),
-    (λ v. (T k l).1 (elim v [ inl p ↦ inl ((V k l b).1 p) | inr p ↦ inr ((V k mid b).1 p.0, (V mid l h).1 p.1) ])),
-  )
-
-  steps-trail : (n k l : ℕ) → k < P.len → Steps E n k l → Trail E (λ j. j < P.len) n k l
-  steps-trail zero k l h p = (p, h)
-  steps-trail (suc n) k l h p = (p.0, h, p.1, steps-trail n p.0 l p.1.1 p.2)
-
-  trail-steps : (n k l : ℕ) → Trail E (λ j. j < P.len) n k l → Steps E n k l
-  trail-steps zero k l p = p.0
-  trail-steps (suc n) k l p = (p.0, p.2, trail-steps n p.0 l p.3)
-
-  -- with all components let in, the paths
-  pub via_trail : (k l : ℕ) → k < P.len → Via E P.len k l ↔ ((n : ℕ) × Trail E (λ j. j < P.len) n k l)
-  via_trail k l h = (
-    (λ v. let r = via_road E P.len k l v in (suc r.0, steps-trail (suc r.0) k l h r.1)),
-    from,
-  )
-    where
-      from : (n : ℕ) × Trail E (λ j. j < P.len) n k l → Via E P.len k l
-      from (zero, p) = subst (λ i. Via E P.len k i) p.0 (via_own P.len k h)
-      from (suc n, p) = road_via E P.len (λ s t e. e.1) n k l (trail-steps (suc n) k l p)
+-- all are known
+pub known_all : (moves : List Set) (P : Partition) (order : List ℕ) (reach : List Set) (c : ℕ) → Behind moves P order → P.len ≤ c →
+    Known moves P order reach c → (k l : ℕ) → k < P.len → In (set_at reach k) l ↔ Reaches moves P k l
+known_all moves P order reach c B past known k l h =
+    let p = B.each k h in
+    subst (λ j. In (set_at reach j) l ↔ Reaches moves P j l) p.2 (known p.0 (omega (arith, p.1, past)) l)

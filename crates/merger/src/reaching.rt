@@ -49,6 +49,20 @@ fn fill_rows(rows: &mut [[u8; 128]; 128], sets: &[Set; 128], count: usize)
     }
 }
 
+// Those of the first `count` places whose set has just the place itself.
+fn alone(sets: &[Set; 128], count: usize) -> Set
+    requires { count ≤ 128 }
+    ensures { (k : ℕ) → In result k → (k < count) × ((l : ℕ) → In (set_at sets.now k) l ↔ (l ≡ k)) }
+{
+    let mut alone = Set::NONE;
+    for (k, set) in sets[..count].iter().enumerate() {
+        if set.same(Set::NONE.with(k)) {
+            alone = alone.with(k);
+        }
+    }
+    alone
+}
+
 // Clears in the rows of `places` the marks of what is in another class.
 fn narrow_rows(rows: &mut [[u8; 128]; 128], places: Set, classes: &Partition)
     requires { (k : ℕ) → In places k → k < classes.now.len }
@@ -67,7 +81,7 @@ impl Reach {
     {
         let count = classes.len();
         fill_rows(&mut self.rows, sets, count);
-        self.still = Set::from_fn(count, |k| sets[k].same(Set::NONE.with(k)));
+        self.still = alone(sets, count);
     }
 
     // Components that reach themselves and no other. Each that did so at first is among them.
