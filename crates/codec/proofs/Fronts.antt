@@ -4,7 +4,7 @@ use native.Mathlib.Nat.{pow-zero, one-le-pow}
 use Rattle.std.specs.List.{AllByRecursion}
 use Rattle.std.proofs.ByRecursion.{All-push}
 use Rattle.std.proofs.lemmas.Bool.{cases_lt}
-use Rattle.std.proofs.lemmas.List.{append_assoc, append-nil, drop_more, length-take, length-take-le, take-append-drop, take-take, take_all, take_at, take_more}
+use Rattle.std.proofs.lemmas.List.{append_assoc, append-nil, drop-drop, drop_more, get_or-drop, length-drop, length-take, length-take-le, take-append-drop, take-take, take_all, take_at, take_more}
 use Rattle.codec.specs.Numbers.{code}
 use Rattle.codec.specs.Reading.{Begins, Endless, Refused}
 use Rattle.codec.specs.declared.numbers.Flaw.TheVariants.{NotFewest}
@@ -197,3 +197,82 @@ module _ (bytes : List ℕ) (k low scale : ℕ) (front : Front bytes k low scale
 
 pub front_endless : (bytes : List ℕ) (k low scale : ℕ) → Front bytes k low scale → length bytes ≤ k → Endless bytes
 front_endless bytes k low scale front all = subst Endless (take_all k bytes all) (subst Endless (take_all k (take k bytes) (omega (arith, length-take k bytes))) (endless_front (take k bytes) k front.marked))
+
+endless_drop : (k : ℕ) (bs : List ℕ) → Endless bs → Endless (drop k bs)
+endless_drop zero bs e = e
+endless_drop (suc k) [] e = e
+endless_drop (suc k) (b ∷ bs) e = endless_drop k bs e.1
+
+endless_on : (bs cs : List ℕ) → AllByRecursion Marked bs → Endless cs → Endless (bs ++ cs)
+endless_on [] cs m e = e
+endless_on (b ∷ bs) cs m e = (m.0.low, endless_on bs cs m.1 e)
+
+pub some_left : (left : List ℕ) → (Endless left → ⊥) → 0 < length left
+some_left [] end = absurd (end tt)
+some_left (b ∷ bs) end = omega arith
+
+-- left is what follows the bytes that are read
+module _ (bytes left : List ℕ) (k low scale : ℕ) (front : Front bytes k low scale) (is : left ≡ drop k bytes) where
+  -- it goes on for ever where what is left does
+  pub left_endless : Endless left → Endless bytes
+  left_endless e = subst Endless (take-append-drop k bytes) (endless_on (take k bytes) (drop k bytes) front.marked (subst Endless is e))
+
+  pub left_none : length left ≤ 0 → Endless bytes
+  left_none none = front_endless bytes k low scale front (omega (arith, none, ap length is, length-drop k bytes))
+
+  module _ (some : 0 < length left) (byte : get_or left 0 0 < 256) where
+    abbrev first : ℕ
+    first = get_or left 0 0
+
+    there : k < length bytes
+    there = omega (arith, some, ap length is, length-drop k bytes)
+
+    same : get_or bytes k 0 ≡ first
+    same = sym (ap (λ (bs : List ℕ). get_or bs 0 0) is ∙ get_or-drop k bytes 0 0 ∙ ap (λ n. get_or bytes n 0) (omega arith))
+
+    fits : get_or bytes k 0 < 256
+    fits = omega (arith, same, byte)
+
+    rest_is : drop 1 left ≡ drop (k + 1) bytes
+    rest_is = ap (drop 1) is ∙ drop-drop 1 k bytes
+
+    pub left_last_fits : first < 128 → k < 9 → low + first * scale < 2 ^ 64
+    left_last_fits last few = subst (λ b. low + b * scale < 2 ^ 64) same (last_fits bytes k low scale front there fits (omega (arith, same)) (λ two ten. omega arith))
+
+    pub left_more_fits : k < 9 → low + (first - 128) * scale < 2 ^ 64
+    left_more_fits few = subst (λ b. low + (b - 128) * scale < 2 ^ 64) same (more_fits bytes k low scale front there fits few)
+
+    pub left_scale_fits : k < 9 → scale * 128 < 2 ^ 64
+    left_scale_fits few = scale_fits bytes k low scale front there fits few
+
+    pub left_zero : first ≡ 0 → 0 < k → Refused NotFewest bytes
+    left_zero none more = front_zero bytes k low scale front there fits (same ∙ none) more
+
+    pub left_ends : first < 128 → (0 < first) ⊎ (k ≡ 0) → Begins bytes (low + first * scale) (drop 1 left)
+    left_ends last some = subst (λ b. Begins bytes (low + b * scale) (drop 1 left)) same (subst (Begins bytes (low + get_or bytes k 0 * scale)) (sym rest_is)
+        (front_ends bytes k low scale front there fits (omega (arith, same)) (elim some [ inl p ↦ inl (omega (arith, same)) | inr p ↦ inr p ])))
+
+    pub left_more : 128 ≤ first → k < 9 → Front bytes (k + 1) (low + (first - 128) * scale) (scale * 128) × (drop 1 left ≡ drop (k + 1) bytes)
+    left_more high few = (
+      subst (λ b. Front bytes (k + 1) (low + (b - 128) * scale) (scale * 128)) same (front_more bytes k low scale front there fits (omega (arith, same)) few),
+      rest_is,
+    )
+
+    -- a tenth byte
+    module _ (ten : k ≡ 9) where
+      pub left_one_fits : first ≡ 1 → low + scale < 2 ^ 64
+      left_one_fits one =
+          let h = last_fits bytes k low scale front there fits (omega (arith, same)) (λ two _. omega (arith, same)) in
+          omega (arith, subst (λ b. low + b * scale < 2 ^ 64) (same ∙ one) h)
+
+      pub left_one : first ≡ 1 → Begins bytes (low + scale) (drop 1 left)
+      left_one one = subst (λ n. Begins bytes n (drop 1 left)) (ap (λ b. low + b * scale) one ∙ omega arith) (left_ends (omega arith) (inl (omega arith)))
+
+      pub left_other : (first ≡ 1 → ⊥) → (Endless left → ⊥) → Refused NotFewest bytes
+      left_other other end = elim (cases_lt first 128) [
+        | inl small ↦ elim (cases_lt 1 first) [
+          | inl large ↦ front_large bytes k low scale front there fits (omega (arith, same)) (omega (arith, same)) ten
+          | inr le ↦ left_zero (omega arith) (omega arith)
+        ]
+        | inr high ↦ front_long bytes k low scale front there fits (omega (arith, same)) ten (λ e. end (subst Endless (sym is) (endless_drop k bytes e)))
+      ]

@@ -40,30 +40,37 @@ fn has_end(bytes: &[u8]) -> bool
 fn read_number(bytes: &[u8]) -> Result<(u64, &[u8]), Flaw>
     ensures { MatchResult result (λ p. Begins bytes.now p.0 p.1.now) (λ e. Refused e bytes.now) }
 {
-    // what the bytes so far stand for, and how much a 1 in the next adds
+    // what the bytes so far stand for, how much a 1 in the next adds, and what follows them
     let mut low = 0;
     let mut scale = 1;
-    for (k, byte) in bytes.iter().enumerate() {
-        if *byte < MORE {
-            if *byte == 0 && k > 0 {
-                return Err(Flaw::NotFewest);
-            }
-            if *byte > 1 && k == LAST {
-                return Err(Flaw::NotFewest);
-            }
-            return Ok((low + *byte as u64 * scale, &bytes[k + 1..]));
-        }
-        if k == LAST {
-            return Err(if has_end(bytes) {
-                Flaw::NotFewest
+    let mut left = bytes;
+    for k in 0..LAST {
+        let [first, rest @ ..] = left else {
+            return Err(Flaw::CutShort);
+        };
+        if *first < MORE {
+            return if *first == 0 && k > 0 {
+                Err(Flaw::NotFewest)
             } else {
-                Flaw::CutShort
-            });
+                Ok((low + *first as u64 * scale, rest))
+            };
         }
-        low += (*byte - MORE) as u64 * scale;
+        low += (*first - MORE) as u64 * scale;
         scale *= 128;
+        left = rest;
     }
-    Err(Flaw::CutShort)
+    // a tenth byte can only be 1, for 2^63
+    let [first, rest @ ..] = left else {
+        return Err(Flaw::CutShort);
+    };
+    if *first == 1 {
+        return Ok((low + scale, rest));
+    }
+    Err(if has_end(left) {
+        Flaw::NotFewest
+    } else {
+        Flaw::CutShort
+    })
 }
 
 // The bytes from `at` on: none where that is past the end.

@@ -93,7 +93,7 @@ not_fewest = record {
       refl,
       (
         (λ h. omega (arith, h.1.0)),
-        λ n rest small limit e.
+        λ n rest small e.
             let s = each_code_is_shortest n in
             no_code n (code n) rest s.coded s.means s.fewest e,
       ),
