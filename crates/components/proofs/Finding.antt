@@ -50,7 +50,7 @@ module _ (rows : List Set) (S : Search) (D : Searched rows S) (part part' : List
       let u = D.used c (omega (arith, as-many)) in
       same-place s u.0 ls u.1 (sym e ∙ sym (ap (number found.order) u.2) ∙ N.order u.0 u.1) ∙ u.2
 
-  ordered : Ordered rows part' found.count found.order
+  ordered : Ordered (Edge rows) (length rows) part' found.count found.order
   ordered = record {
     low = λ c l.
         let u = D.used c (omega (arith, as-many)) in
@@ -157,6 +157,11 @@ module _ (M : Kripke) (rows : List Set) (long : length rows ≡ M.frame.size) (a
         (λ c. (I.cyclic i).1 (turn i c)),
       );
       rest = λ s l. I.rest s (omega (arith, l, long));
+      order = record {
+        low = I.order.low;
+        each = λ s l. I.order.each s (omega (arith, l, long));
+        later = λ s t c d e. I.order.later s t c d (move-edge s t e.1 e.0);
+      };
     }
 
   -- the answer of a search of these rows is the answer of one of M

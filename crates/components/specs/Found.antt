@@ -4,6 +4,7 @@ use Rattle.sets.specs.declared.Set.{Set}
 use Rattle.sets.specs.Sets.{In}
 use Rattle.kripke.specs.Models.{Kripke, Alike}
 use Rattle.kripke.specs.Numbering.{Numbering}
+use Rattle.kripke.specs.Paths.{Move}
 use Rattle.kripke.specs.Components.{Components, Cyclic, numbered}
 use Rattle.components.specs.Rows.{Edge, Both}
 use Rattle.components.specs.Numbers.{number}
@@ -25,17 +26,23 @@ Refuses ShortScratch n walks states = (n ≤ most) × ((walks < n) ⊎ (states <
 abbrev pub Room : (n walks states : ℕ) → Type 0
 Room n walks states = (n ≤ most) × (n ≤ walks) × (n ≤ states)
 
--- order has the numbers of the components, each once, and each behind those that it moves to
-pub record Ordered (rows : List Set) (part : List ℕ) (count : ℕ) (order : List ℕ) : Type 0 where
+-- order has the numbers of the components of n states, each once, and each behind those that its states move to by E
+pub record Ordered (E : ℕ → ℕ → Type 0) (n : ℕ) (part : List ℕ) (count : ℕ) (order : List ℕ) : Type 0 where
   pub low : (c : ℕ) → c < count → number order c < count
-  pub each : (s : ℕ) → s < length rows → (c : ℕ) × (c < count) × (number order c ≡ number part s)
-  pub later : (s t c d : ℕ) → Edge rows s t → c < count → d < count → number order c ≡ number part s → number order d ≡ number part t → d ≤ c
+  pub each : (s : ℕ) → s < n → (c : ℕ) × (c < count) × (number order c ≡ number part s)
+  pub later : (s t c d : ℕ) → E s t → c < count → d < count → number order c ≡ number part s → number order d ≡ number part t → d ≤ c
 
--- part' is part with the components of M at its front, numbered by first member; found has their number, and which of them hold a cycle
+-- a move between alike states
+abbrev pub Inside : Kripke → ℕ → ℕ → Type 0
+Inside M s t = Alike M s t × Move M.frame s t
+
+-- part' is part with the components of M at its front, numbered by first member; found has their number, which of them hold
+-- a cycle, and their order
 pub record Finds (M : Kripke) (part part' : List ℕ) (found : Found) : Type 0 where
   pub components : Components M.frame (Alike M) (number part') found.count
   pub cyclic : (i : ℕ) → In found.cyclic i ↔ Cyclic M.frame (numbered M.frame (number part') i)
   pub rest : (s : ℕ) → M.frame.size ≤ s → number part' s ≡ number part s
+  pub order : Ordered (Inside M) M.frame.size part' found.count found.order
 
 -- the same of states by their rows: two have one number exactly where moves lead from each to the other,
 -- and a component holds a cycle where one of its states moves to one of its states
@@ -43,7 +50,7 @@ pub record FindsIn (rows : List Set) (part part' : List ℕ) (found : Found) : T
   pub numbering : Numbering (Both rows) (length rows) (number part') found.count
   pub cyclic : (i : ℕ) → In found.cyclic i ↔ ((s t : ℕ) × Edge rows s t × (number part' s ≡ i) × (number part' t ≡ i))
   pub rest : (s : ℕ) → length rows ≤ s → number part' s ≡ number part s
-  pub order : Ordered rows part' found.count found.order
+  pub order : Ordered (Edge rows) (length rows) part' found.count found.order
 
 -- the answer of a search of n states that finds what F says: a refused search alters nothing; an accepted one has room,
 -- and what it leaves in the memory lent for the walk is free
