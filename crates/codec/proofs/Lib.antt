@@ -5,3 +5,4 @@ pub mod Coding
 pub mod Widths
 pub mod Standing
 pub mod Fronts
+pub mod Laying

@@ -2,7 +2,7 @@
 ghost use Rattle.std.specs.Prelude.{◌≡◌, ℕ, ◌+◌, ◌++◌, ◌^◌, length, drop, nat_lt, IfSome, MatchResult};
 ghost use Rattle.std.specs.List.{list_any};
 ghost use Rattle.codec.specs.Numbers.{code, codes, counted, EachCodeIsShortest};
-ghost use Rattle.codec.specs.Pieces.{Writes};
+ghost use Rattle.codec.specs.Pieces.{Lays, Writes};
 ghost use Rattle.codec.specs.Reading.{Begins, Endless, Refused, Reads, Stands, located, OneReading, WrittenReadsBack, ReadRewrites};
 
 use crate::pieces::{All, Byte, Piece, Series, within};
@@ -129,6 +129,10 @@ impl Number {
     pub fn width(self) -> usize
         ensures { result ≡ length (code self.0) }
     {
+        // nearly all numbers of a file are a byte of their own
+        if self.0 < MORE as u64 {
+            return 1;
+        }
         self.0.checked_ilog2().map_or(1, |log| log as usize / 7 + 1)
     }
 
@@ -142,6 +146,24 @@ impl Number {
     }
 }
 
+// Lays a number over the front of `space`, a byte after another.
+// A call of its own, so that the one byte of most numbers is laid where it is asked for.
+#[inline(never)]
+fn put_long(number: u64, space: &mut [u8]) -> usize
+    ensures { Lays (code number) space.old space.new result }
+{
+    let mut left = number;
+    for (end, place) in space.iter_mut().enumerate() {
+        if left < MORE as u64 {
+            *place = left as u8;
+            return end + 1;
+        }
+        *place = (left % 128) as u8 + MORE;
+        left /= 128;
+    }
+    space.len()
+}
+
 impl Piece for Number {
     ghost bytes = { λ n. code n.0 };
 
@@ -150,11 +172,11 @@ impl Piece for Number {
     }
 
     fn put(&self, space: &mut [u8]) -> usize {
-        if self.0 < 128 {
+        // nearly all numbers of a file are a byte of their own, and no more is done for them
+        if self.0 < MORE as u64 {
             return Byte(self.0 as u8).put(space);
         }
-        let end = Byte((self.0 % 128) as u8 + MORE).put(space);
-        end + Number(self.0 / 128).put(&mut space[end..])
+        put_long(self.0, space)
     }
 }
 

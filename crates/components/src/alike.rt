@@ -10,16 +10,15 @@ use models::{Label, Model};
 use sets::Set;
 use sets::gathering::Gathering;
 
-// The words of each state.
-fn words_of<M: Model>(model: &M) -> [Facts; 128]
+// Writes the words of each state.
+// Kept: tables are written in place, here and below, since a table that is handed out is copied.
+fn write_words<M: Model>(model: &M, words: &mut [Facts; 128])
     requires { (M.Model.means model.now).frame.size ≤ 128 }
-    ensures { Told (M.Model.means model.now) result }
+    ensures { Told (M.Model.means model.now) words.new }
 {
-    let mut words = [Facts::NONE; 128];
     for (s, facts) in words[..model.size() as usize].iter_mut().enumerate() {
         *facts = model.facts(s as u16);
     }
-    words
 }
 
 // Whether `t` is a state with these words.
@@ -47,15 +46,14 @@ fn row_of<M: Model>(model: &M, words: &[Facts; 128], s: u16) -> Set
     row.set()
 }
 
-// For each state, the states that it moves to and that are alike to it.
-pub(crate) fn alike_rows<M: Model>(model: &M) -> [Set; 128]
+// Writes for each state the states that it moves to and that are alike to it.
+pub(crate) fn write_alike_rows<M: Model>(model: &M, rows: &mut [Set; 128])
     requires { (M.Model.means model.now).frame.size ≤ 128 }
-    ensures { (s : ℕ) → s < (M.Model.means model.now).frame.size → AlikeMoves (M.Model.means model.now) s (row_at result s) }
+    ensures { (s : ℕ) → s < (M.Model.means model.now).frame.size → AlikeMoves (M.Model.means model.now) s (row_at rows.new s) }
 {
-    let words = words_of(model);
-    let mut rows = [Set::NONE; 128];
+    let mut words = [Facts::NONE; 128];
+    write_words(model, &mut words);
     for (s, row) in rows[..model.size() as usize].iter_mut().enumerate() {
         *row = row_of(model, &words, s as u16);
     }
-    rows
 }

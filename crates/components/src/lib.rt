@@ -5,7 +5,7 @@
 ghost use Rattle.std.specs.Prelude.{ℕ, length, MatchResult};
 ghost use Rattle.components.specs.Found.{Answers, AnswersIn, Refuses, Room};
 
-use crate::alike::alike_rows;
+use crate::alike::write_alike_rows;
 use crate::numbering::number;
 use crate::search::Search;
 use models::Model;
@@ -17,10 +17,11 @@ mod numbering;
 mod search;
 
 pub use crate::marks::Walk;
+pub use stack::Stack;
 
 // Kept: survey has the same number for what is worked on; a search needs no survey.
 /// The most states that are searched.
-pub const MOST_STATES: usize = 128;
+pub const MOST_STATES: u16 = 128;
 
 // Kept: an array for the most states, since the library takes no heap.
 /// The number of each state's component.
@@ -50,7 +51,7 @@ pub enum Refused {
 fn check_room(size: usize, walks: &[Walk], states: &[u16]) -> Result<(), Refused>
     ensures { MatchResult result (λ _. Room size (length walks.now) (length states.now)) (λ why. Refuses why size (length walks.now) (length states.now)) }
 {
-    if size > MOST_STATES {
+    if size > MOST_STATES as usize {
         return Err(Refused::TooMany);
     }
     if walks.len() < size || states.len() < size {
@@ -72,7 +73,8 @@ pub fn find_components<M: Model>(
 {
     let size = model.size() as usize;
     check_room(size, walks, states)?;
-    let rows = alike_rows(model);
+    let mut rows = [Set::NONE; 128];
+    write_alike_rows(model, &mut rows);
     find_in_rows(&rows[..size], walks, states, part)
 }
 

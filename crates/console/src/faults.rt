@@ -14,6 +14,27 @@ use survey::gaps::Gap;
 pub const PAGES: &str =
     "docs/FORMAT.md, docs/ANALYSIS.md and docs/FORMULAS.md say what the cause means";
 
+// What to do about each cause that one does come to.
+const CUT_SHORT: &str = "the file ends inside a number: see that it came whole (docs/FORMAT.md)";
+
+const NOT_FEWEST: &str =
+    "that number is too large or not in its fewest bytes: write it anew (docs/FORMAT.md)";
+
+const OUT_OF_RANGE: &str =
+    "that number is out of range: mend N, the degree or the target (docs/FORMAT.md)";
+
+const NOT_RISING: &str =
+    "that target is not above the one before: let each row rise (docs/FORMAT.md)";
+
+const LEFT_OVER: &str =
+    "the model ends before that byte: cut off the rest, or mend N (docs/FORMAT.md)";
+
+const TOO_LONG: &str = "the file has more than 32767 bytes: give a smaller model (docs/FORMAT.md)";
+
+const TOO_MANY: &str = "there are more than 128 states: give a smaller model (docs/ANALYSIS.md)";
+
+const NO_MOVE: &str = "that state has no move: give it one, if only to itself (docs/ANALYSIS.md)";
+
 // The longest fault line: the word, and four numbers of at most 20 digits with a space before each.
 const LINE: usize = 96;
 
@@ -39,25 +60,13 @@ impl Fault for FileFault {
 
     fn advice(&self) -> &'static str {
         match self {
-            FileFault::InNumber(NumberFault::CutShortAt(_)) => {
-                "the file ends inside a number: see that it came whole (docs/FORMAT.md)"
-            }
-            FileFault::InNumber(NumberFault::NotFewestAt(_)) => {
-                "that number is too large or not in its fewest bytes: write it anew (docs/FORMAT.md)"
-            }
-            FileFault::OutOfRange(_) => {
-                "that number is out of range: mend N, the degree or the target (docs/FORMAT.md)"
-            }
-            FileFault::NotRising(_) => {
-                "that target is not above the one before: let each row rise (docs/FORMAT.md)"
-            }
+            FileFault::InNumber(NumberFault::CutShortAt(_)) => CUT_SHORT,
+            FileFault::InNumber(NumberFault::NotFewestAt(_)) => NOT_FEWEST,
+            FileFault::OutOfRange(_) => OUT_OF_RANGE,
+            FileFault::NotRising(_) => NOT_RISING,
             FileFault::TableShort(_) => PAGES,
-            FileFault::LeftOver(_) => {
-                "the model ends before that byte: cut off the rest, or mend N (docs/FORMAT.md)"
-            }
-            FileFault::TooLong => {
-                "the file has more than 32767 bytes: give a smaller model (docs/FORMAT.md)"
-            }
+            FileFault::LeftOver(_) => LEFT_OVER,
+            FileFault::TooLong => TOO_LONG,
         }
     }
 }
@@ -71,12 +80,32 @@ impl Fault for Gap {
 
     fn advice(&self) -> &'static str {
         match self {
-            Gap::TooMany =>
-                "there are more than 128 states: give a smaller model (docs/ANALYSIS.md)",
-            Gap::EmptyRow { .. } => {
-                "that state has no move: give it one, if only to itself (docs/ANALYSIS.md)"
-            }
+            Gap::TooMany => TOO_MANY,
+            Gap::EmptyRow { .. } => NO_MOVE,
             Gap::NoStates | Gap::Nowhere { .. } => PAGES,
+        }
+    }
+}
+
+// A fault of which only the numbers are known: what to do is told by its cause.
+impl Fault for FaultNumbers {
+    ghost told = { λ told. told };
+
+    fn tells(&self) -> FaultNumbers {
+        *self
+    }
+
+    fn advice(&self) -> &'static str {
+        match self.cause {
+            1 => CUT_SHORT,
+            2 => NOT_FEWEST,
+            3 => OUT_OF_RANGE,
+            4 => NOT_RISING,
+            6 => LEFT_OVER,
+            7 => TOO_LONG,
+            12 => TOO_MANY,
+            15 => NO_MOVE,
+            _ => PAGES,
         }
     }
 }

@@ -69,8 +69,8 @@ impl Tables {
     }
 }
 
-// The arguments of the program, with a space between two.
-fn arguments(rt: &HostRuntime) -> anyhow::Result<String> {
+/// The arguments of the program, with a space between two.
+pub fn arguments(rt: &HostRuntime) -> anyhow::Result<String> {
     let mut all = String::new(rt.alloc());
     for word in env::args(rt)?.skip(1) {
         if !all.is_empty() {
@@ -81,10 +81,24 @@ fn arguments(rt: &HostRuntime) -> anyhow::Result<String> {
     Ok(all)
 }
 
+/// Whether the program was called with `help` alone.
+pub fn wants_help(rt: &HostRuntime) -> anyhow::Result<bool> {
+    Ok(arguments(rt)?.as_str() == "help")
+}
+
 /// Says on standard error that arguments are not understood, and what to do instead. The error is for `main` to end with.
 pub fn refuse(rt: &HostRuntime, words: &str, instead: &str) -> anyhow::Error {
     let _ = eprintln!(rt; "'{words}' is not understood: {instead}");
     anyhow!("the arguments are not understood")
+}
+
+/// Refuses arguments, for a program that takes none but `help`.
+pub fn no_arguments(rt: &HostRuntime, instead: &str) -> anyhow::Result<()> {
+    let words = arguments(rt)?;
+    if words.is_empty() {
+        return Ok(());
+    }
+    Err(refuse(rt, &words, instead))
 }
 
 /// Runs a program: prints its help if `help` is all that it was called with, and else does its job with its arguments.
@@ -95,11 +109,10 @@ pub fn run_with_arguments<F: FnOnce(&str) -> anyhow::Result<()>>(
 ) -> anyhow::Result<()>
     requires { F.IsAlwaysCallable job }
 {
-    let words = arguments(rt)?;
-    if words.as_str() == "help" {
+    if wants_help(rt)? {
         return Ok(rt.print(help)?);
     }
-    job(&words)
+    job(&arguments(rt)?)
 }
 
 /// Runs a program that takes no arguments but `help`, and refuses others.
@@ -111,12 +124,9 @@ pub fn run<F: FnOnce(&HostRuntime) -> anyhow::Result<()>>(
 ) -> anyhow::Result<()>
     requires { F.IsAlwaysCallable job }
 {
-    run_with_arguments(rt, help, |words| {
-        if words.is_empty() {
-            job(rt)
-        } else {
-            Err(refuse(rt, words, instead))
-        }
+    run_with_arguments(rt, help, |_| {
+        no_arguments(rt, instead)?;
+        job(rt)
     })
 }
 

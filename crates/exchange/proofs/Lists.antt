@@ -50,7 +50,7 @@ class_found a s (Err e) C =
       | inr high ↦ high
     ]
 
-members-length : (class : ℕ → ℕ) (n : ℕ) → length (members class n) ≡ n
+pub members-length : (class : ℕ → ℕ) (n : ℕ) → length (members class n) ≡ n
 members-length class zero = refl
 members-length class (suc n) = length-append (members class n) (Member n (class n) ∷ []) ∙ (add-one (length (members class n)) ∙ ap suc (members-length class n))
 

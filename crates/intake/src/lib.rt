@@ -13,10 +13,9 @@ use merger::analysis::Analysis;
 use merger::answers::OpenRefusal;
 use modelfile::faults::FaultNumbers;
 use std::io;
-use survey::MOST_STATES;
 
-// Scratch of an analysis has an entry for each state that it may have.
-const SCRATCH: usize = MOST_STATES as usize;
+/// The most states that an analysis takes, and so the most rounds that it makes. Its scratch has an entry for each.
+pub const MOST_STATES: usize = survey::MOST_STATES as usize;
 
 /// Why a file is not taken, as a program answers with it.
 // TakeFault is exchange's and Fault is console's, so the answer to both is a type of intake's own.
@@ -48,8 +47,8 @@ pub fn settle(file: &[u8], tables: &mut Tables) -> Result<Analysis, TakeFault>
         &mut analysis,
         file,
         &mut tables.lend(),
-        &mut [Walk::BLANK; SCRATCH],
-        &mut [0; SCRATCH],
+        &mut [Walk::BLANK; MOST_STATES],
+        &mut [0; MOST_STATES],
     )?;
     Ok(analysis)
 }

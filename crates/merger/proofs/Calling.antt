@@ -8,7 +8,7 @@ use Rattle.merger.specs.Promise.{Told}
 use Rattle.merger.specs.declared.answers.Refusal.{Refusal}
 use Rattle.merger.specs.Tables.{class_of}
 use Rattle.merger.specs.Calls.{Analysed, Promises, Continues, ClassAnswer, TogetherAnswer}
-use Rattle.merger.proofs.Promising.{tabled_promise, tabled_together, reaches_none, reaches_still, reaches_step, run_count}
+use Rattle.merger.proofs.Promising.{tabled_promise, tabled_together, reaches_none, reaches_still, reaches_step, reaches_join, run_count}
 
 pub promises : (M : Kripke) (r : ℕ) (a : Analysis) → Analysed M r a → Promises M r a
 promises M r a A = tabled_promise M r a.found a.rounds A.tabled
@@ -31,6 +31,13 @@ continues_run a b k budget more most up M r A =
     let B = more M r A in
     let c = run_count M r k budget a.found a.rounds b.found b.rounds A.tabled B.tabled most up in
     (r + k, (c.0, c.1, c.3), B, promises M (r + k) b B)
+
+-- one call after another
+pub continues_join : (n k : ℕ) (a b d : Analysis) → Continues n a b → Continues k b d → Continues (n + k) a d
+continues_join n k a b d f g M r A =
+    let p = f M r A in
+    let q = g M p.0 p.2 in
+    (q.0, reaches_join M r n k p.0 q.0 p.1 q.1, q.2, q.3)
 
 -- two states, from what is told of each
 pub together_first : (a : Analysis) (s t : ℕ) (e : Refusal) → ClassAnswer a s (Err e) → TogetherAnswer a s t (Err e)

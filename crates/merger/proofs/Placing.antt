@@ -16,6 +16,17 @@ use Rattle.merger.proofs.Blank.{after_set}
 pub same_own : (x : Set) → Same x x
 same_own x c = ((λ h. h), (λ h. h))
 
+-- items that are like one another are so both ways, and so is what is like the same item
+module _ (rows : List Set) (class : List ℕ) where
+  pub like_own : (i : ℕ) → Like rows class i i
+  like_own i = (refl, same_own (set_at rows i))
+
+  pub like_turn : (i j : ℕ) → Like rows class i j → Like rows class j i
+  like_turn i j p = (sym p.0, λ c. ((p.1 c).1, (p.1 c).0))
+
+  pub like_join : (i j k : ℕ) → Like rows class i j → Like rows class j k → Like rows class i k
+  like_join i j k p q = (p.0 ∙ q.0, λ c. ((λ h. (q.1 c).0 ((p.1 c).0 h)), (λ h. (p.1 c).1 ((q.1 c).1 h))))
+
 -- two sets that are not other than each other are the same
 pub same_stable : (x y : Set) → ((Same x y → ⊥) → ⊥) → Same x y
 same_stable x y not_other c = (

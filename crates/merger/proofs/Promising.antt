@@ -7,7 +7,7 @@ use Rattle.kripke.specs.Relation.{Related, Settles}
 use Rattle.kripke.proofs.Numbering.{numbering_same}
 use Rattle.kripke.proofs.Settling.{settles_stable}
 use Rattle.kripke.proofs.Quotient.{reduced_agrees, reduced_smallest}
-use Rattle.kripke.proofs.Claims.{stable_exact, parted_by_formula_lem, rounds_counted}
+use Rattle.kripke.proofs.Claims.{stable_exact, parted_by_formula_lem, rounds_counted, settled_once}
 use Rattle.merger.specs.declared.tables.Found.{Found}
 use Rattle.merger.specs.declared.tables.Rounds.{Rounds}
 use Rattle.merger.specs.Tables.{class_of}
@@ -88,3 +88,9 @@ module _ (M : Kripke) (r k budget : ℕ) (F : Found) (S : Rounds) (F' : Found) (
       let full : k < budget → ⊥ = λ l. both_ways _ p.0 (up l) in
       (z.0, z.2, omega (arith, p.1), omega (arith, p.1)))
       (stands_at M (r + k) z.0 F' S' B z.2)
+
+-- one stretch after another
+pub reaches_join : (M : Kripke) (r a b q p : ℕ) → Reaches M r a q → Reaches M q b p → Reaches M r (a + b) p
+reaches_join M r a b q p x y =
+    let e = settled_once M x.0 y.0 x.1 y.1 in
+    (y.0, y.1, omega (arith, x.2, y.2))

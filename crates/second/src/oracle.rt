@@ -1,16 +1,18 @@
 //! The second engine: the relation, the components and the reduced model, each straight from its definition and by search,
 //! with no thought of speed. It shares no code with the merger.
 use std::alloc::{AllocError, Global};
-use std::collections::BTreeSet;
 
-/// A set of states.
-pub type States = BTreeSet<u16>;
+/// A set of states: of each state, whether the set has it.
+#[derive(PartialEq, Eq, Drop)]
+pub struct States {
+    has: Vec<bool>,
+}
 
-/// A state of a plain model: its words as bits, and the states that it moves to.
+/// A state of a plain model: its words as bits, and the states that it moves to, rising.
 #[derive(Clone, Drop)]
 pub struct State {
     pub label: u64,
-    pub moves: States,
+    pub moves: Vec<u16>,
 }
 
 /// A model as the list of its states.
@@ -42,11 +44,75 @@ pub(crate) fn states_where<T, F: Fn(&T) -> bool>(
 ) -> Result<States, AllocError>
     requires { F.IsAlwaysCallable test }
 {
-    (0u16..)
-        .zip(items)
-        .filter(|(_, item)| test(*item))
-        .map(|(s, _)| s)
-        .collect(heap)
+    let has = items.iter().map(|item| test(item)).collect(heap)?;
+    Ok(States { has })
+}
+
+impl States {
+    /// Whether the set has a state.
+    pub fn contains(&self, s: u16) -> bool {
+        self.has.get(usize::from(s)).copied().unwrap_or(false)
+    }
+
+    // Puts a state of the model into the set.
+    pub(crate) fn insert(&mut self, s: u16) {
+        if let Some(place) = self.has.get_mut(usize::from(s)) {
+            *place = true;
+        }
+    }
+
+    // The lowest state of the set.
+    fn first(&self) -> Option<usize> {
+        self.has.iter().position(|has| *has)
+    }
+
+    // Whether the set has some of these states.
+    pub(crate) fn meets(&self, states: &[u16]) -> bool {
+        states.iter().any(|s| self.contains(*s))
+    }
+
+    // Puts those of some states into the set that another set has. Says whether there were more.
+    fn put_inside(&mut self, states: &[u16], inside: &States) -> bool {
+        let mut more = false;
+        for s in states {
+            if inside.contains(*s) && !self.contains(*s) {
+                self.insert(*s);
+                more = true;
+            }
+        }
+        more
+    }
+
+    // Puts those of some states into the set that another set has not.
+    fn put_outside(&mut self, states: &[u16], set: &States) {
+        for s in states {
+            if !set.contains(*s) {
+                self.insert(*s);
+            }
+        }
+    }
+
+    // Whether two sets have a state in common.
+    fn touches(&self, other: &States) -> bool {
+        self.has
+            .iter()
+            .zip(&other.has)
+            .any(|(one, two)| *one && *two)
+    }
+
+    // The states where a test of their being in either set says so.
+    pub(crate) fn joined<F: Fn(bool, bool) -> bool>(
+        &self,
+        heap: Global,
+        other: &States,
+        test: F,
+    ) -> Result<States, AllocError>
+        requires { F.IsAlwaysCallable test }
+    {
+        let pairs = self.has.iter().zip(&other.has);
+        let has = pairs.map(|(one, two)| test(*one, *two)).collect(heap)?;
+        Ok(States { has })
+    }
 }
 
 impl Relation {
@@ -69,7 +135,7 @@ impl Relation {
     pub fn has(&self, s: u16, t: u16) -> bool {
         self.rows
             .get(usize::from(s))
-            .is_some_and(|row| row.contains(&t))
+            .is_some_and(|row| row.contains(t))
     }
 
     /// The classes of an equivalence, by their first members.
@@ -90,13 +156,38 @@ impl Plain {
         u16::try_from(self.states.len()).unwrap_or(u16::MAX)
     }
 
-    // The states that those of a set move to.
-    pub(crate) fn after(&self, heap: Global, set: &States) -> Result<States, AllocError> {
-        set.iter()
-            .filter_map(|s| self.states.get(usize::from(*s)))
-            .flat_map(|state| &state.moves)
-            .copied()
-            .collect(heap)
+    /// No states.
+    pub fn nothing(&self, heap: Global) -> Result<States, AllocError> {
+        states_where(heap, &self.states, |_| false)
+    }
+
+    // One state.
+    pub(crate) fn alone(&self, heap: Global, s: u16) -> Result<States, AllocError> {
+        let mut set = self.nothing(heap)?;
+        set.insert(s);
+        Ok(set)
+    }
+
+    // The states outside a set that are one move from it.
+    fn exits(&self, heap: Global, set: &States) -> Result<States, AllocError> {
+        let mut found = self.nothing(heap)?;
+        for (s, state) in (0u16..).zip(&self.states) {
+            if set.contains(s) {
+                found.put_outside(&state.moves, set);
+            }
+        }
+        Ok(found)
+    }
+
+    // One step of a search: what is seen, and the states inside that it moves to. Says whether that is more.
+    fn spread(&self, seen: &mut States, inside: &States) -> bool {
+        let mut more = false;
+        for (s, state) in (0u16..).zip(&self.states) {
+            if seen.contains(s) {
+                more |= seen.put_inside(&state.moves, inside);
+            }
+        }
+        more
     }
 
     /// The states that are reached from those of a set, themselves included, by moves inside another set.
@@ -106,14 +197,12 @@ impl Plain {
         from: &States,
         inside: &States,
     ) -> Result<States, AllocError> {
-        let mut seen = (from & inside)?;
+        let mut seen = from.joined(heap, inside, |one, two| one && two)?;
         // each turn goes one move further
         for _turn in &self.states {
-            let further = (&self.after(heap, &seen)? & inside)?;
-            if further.is_subset(&seen) {
+            if !self.spread(&mut seen, inside) {
                 break;
             }
-            seen.extend(&further)?;
         }
         Ok(seen)
     }
@@ -123,10 +212,23 @@ impl Plain {
         Relation::between(heap, &self.states, |one, two| one.label == two.label)
     }
 
-    // Whether a set holds a cycle: a state that is reached again from those that it moves to, by moves inside the set.
+    // Whether a state of a set is reached again from those that it moves to, by moves inside the set.
+    fn returns(
+        &self,
+        heap: Global,
+        s: u16,
+        state: &State,
+        set: &States,
+    ) -> Result<bool, AllocError> {
+        let mut next = self.nothing(heap)?;
+        let _ = next.put_inside(&state.moves, set);
+        Ok(set.contains(s) && self.reached(heap, &next, set)?.contains(s))
+    }
+
+    // Whether a set holds a cycle.
     fn cycles(&self, heap: Global, set: &States) -> Result<bool, AllocError> {
         for (s, state) in (0u16..).zip(&self.states) {
-            if set.contains(&s) && self.reached(heap, &state.moves, set)?.contains(&s) {
+            if self.returns(heap, s, state, set)? {
                 return Ok(true);
             }
         }
@@ -137,8 +239,8 @@ impl Plain {
     pub fn views(&self, heap: Global, relation: &Relation) -> Result<Vec<View>, AllocError> {
         let mut views = Vec::new(heap);
         for (state, class) in (0u16..).zip(&relation.rows) {
-            let st = self.reached(heap, &States::from_array(heap, [state])?, class)?;
-            let next = (&self.after(heap, &st)? - &st)?;
+            let st = self.reached(heap, &self.alone(heap, state)?, class)?;
+            let next = self.exits(heap, &st)?;
             let loops = self.cycles(heap, &st)?;
             views.push(View {
                 state,
@@ -162,7 +264,7 @@ impl Plain {
     pub fn joined(&self, heap: Global) -> Result<Relation, AllocError> {
         let views = self.views(heap, &self.alike(heap)?)?;
         Relation::between(heap, &views, |one, two| {
-            one.st.contains(&two.state) && two.st.contains(&one.state)
+            one.st.contains(two.state) && two.st.contains(one.state)
         })
     }
 
@@ -173,10 +275,12 @@ impl Plain {
         let classes = relation.classes(heap)?;
         let mut states = Vec::new(heap);
         for class in &classes {
-            let moves = states_where(heap, &classes, |into| {
-                views.iter().any(|view| class.contains(&view.state) && view.leads(class, into))
-            })?;
-            let first = class.first().and_then(|s| self.states.get(usize::from(*s)));
+            let leads = |into: &&States| {
+                views.iter().any(|view| class.contains(view.state) && view.leads(class, into))
+            };
+            let into = (0u16..).zip(&classes).filter(|(_, into)| leads(*into));
+            let moves = into.map(|(number, _)| number).collect(heap)?;
+            let first = class.first().and_then(|s| self.states.get(s));
             let label = first.map_or(0, |state| state.label);
             states.push(State { label, moves })?;
         }
@@ -185,11 +289,19 @@ impl Plain {
 }
 
 impl View {
+    // Whether a state is related to one in NEXT.
+    fn matches(&self, u: u16, relation: &Relation) -> bool {
+        relation
+            .rows
+            .get(usize::from(u))
+            .is_some_and(|row| row.touches(&self.next))
+    }
+
     // Whether each state in the one's NEXT is related to one in the other's.
     fn is_matched(&self, other: &View, relation: &Relation) -> bool {
-        self.next
-            .iter()
-            .all(|u| other.next.iter().any(|v| relation.has(*u, *v)))
+        (0u16..)
+            .zip(&self.next.has)
+            .all(|(u, has)| !*has || other.matches(u, relation))
     }
 
     // Whether the two states are still together after this round.
@@ -204,7 +316,7 @@ impl View {
         if class == into {
             self.loops
         } else {
-            !self.next.is_disjoint(into)
+            self.next.touches(into)
         }
     }
 }

@@ -1,10 +1,10 @@
 //! Plain models as the tables of a listed one, and where they come from: all small ones, and a seeded generator.
-use crate::lists::lists;
+use crate::lists::{list, lists_up_to};
 use crate::oracle::{Plain, State};
-use itertools::Itertools;
 use models::facts::Facts;
 use models::listed::Listed;
 use std::alloc::{AllocError, Global};
+use std::ops::Range;
 
 // Kept: the same three tables as console's, since the second engine shares nothing with the programs.
 /// The tables of a listed model.
@@ -25,7 +25,7 @@ impl Tables {
         };
         for state in &model.states {
             tables.labels.push(Facts { bits: state.label })?;
-            tables.targets.extend(&state.moves)?;
+            tables.targets.extend_from_slice(&state.moves)?;
             let end = u32::try_from(tables.targets.len()).unwrap_or(u32::MAX);
             tables.offsets.push(end)?;
         }
@@ -78,25 +78,46 @@ impl Dice {
     }
 }
 
-// The states that a total model of `size` states with one word may have.
-fn possible_states(heap: Global, size: u16) -> Result<Vec<State>, AllocError> {
-    // the empty row comes first
-    let rows: Vec<Vec<u16>> = (0..size).powerset(heap)?.skip(1).try_collect(heap)?;
-    let mut states = Vec::new(heap);
-    for (label, row) in (0..2).cartesian_product(&rows) {
-        let moves = row.iter().copied().collect(heap)?;
-        states.push(State { label, moves })?;
-    }
-    Ok(states)
+// The states of a set of numbers, which are its bits.
+fn states_in(heap: Global, size: u16, bits: u32) -> Result<Vec<u16>, AllocError> {
+    (0..size)
+        .filter(|t| bits.checked_shr(u32::from(*t)).unwrap_or(0) % 2 == 1)
+        .collect(heap)
 }
 
-/// Every total model of up to `most` states with one word.
-pub fn small_models(heap: Global, most: u16) -> Result<Vec<Plain>, AllocError> {
-    let mut models = Vec::new(heap);
-    for size in 1..=most {
-        let possible = possible_states(heap, size)?;
-        let all = lists(heap, &possible, usize::from(size))?;
-        models.extend(all.into_iter().map(|states| Plain { states }))?;
+/// Every total model of one size with one word, each made by its number.
+#[derive(Drop)]
+pub struct SmallModels {
+    size: u16,
+    // the states that such a model may have
+    possible: Vec<State>,
+}
+
+impl SmallModels {
+    /// Those of `size` states.
+    pub fn of(heap: Global, size: u16) -> Result<SmallModels, AllocError> {
+        let mut possible = Vec::new(heap);
+        // a label and a row for each number; the empty row, which comes first, is none
+        for number in 2..2u32.saturating_pow(u32::from(size).saturating_add(1)) {
+            let moves = states_in(heap, size, number / 2)?;
+            let label = u64::from(number % 2);
+            possible.push(State { label, moves })?;
+        }
+        Ok(SmallModels { size, possible })
     }
-    Ok(models)
+
+    /// Their numbers.
+    pub fn numbers(&self) -> Range<u32> {
+        let size = u32::from(self.size);
+        let shorter = size
+            .checked_sub(1)
+            .map_or(0, |most| lists_up_to(&self.possible, most));
+        shorter..lists_up_to(&self.possible, size)
+    }
+
+    /// The model of that number.
+    pub fn model(&self, heap: Global, number: u32) -> Result<Plain, AllocError> {
+        let states = list(heap, &self.possible, number)?;
+        Ok(Plain { states })
+    }
 }

@@ -108,7 +108,7 @@ impl Pair<'_> {
         let size = self.plain.size();
         for (s, partner) in (0..size).zip((0..size).rev()) {
             self.tally.classes.add_one();
-            let number = classes.iter().position(|class| class.contains(&s));
+            let number = classes.iter().position(|class| class.contains(s));
             let class = self.analysis.class(s).ok().map(usize::from);
             self.tally.differences.add_if(class != number);
             let joint = self.analysis.together(s, partner);
@@ -154,7 +154,7 @@ impl Pair<'_> {
         self.tally.differences.add_if(on_small.is_err());
         let truth = self.plain.truth(self.heap, formula)?;
         for (s, mark) in (0..self.plain.size()).zip(full) {
-            let wanted = u8::from(truth.contains(&s));
+            let wanted = u8::from(truth.contains(s));
             let class = self.analysis.class(s).unwrap_or(128);
             self.tally.truths.add_one();
             self.tally.differences.add_if(mark != wanted);

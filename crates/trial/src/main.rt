@@ -2,7 +2,7 @@
 #![tactic(auto)]
 
 use crate::compare::Tally;
-use second::tables::{Dice, small_models};
+use second::tables::{Dice, SmallModels};
 use std::alloc::{AllocError, Global};
 use std::{env, io};
 
@@ -19,11 +19,20 @@ The last number of each line, differences, is to be 0.
 It takes no arguments: with any, as help, it prints this text.
 ";
 
+// Every total model of so many states with one word.
+fn all_of(heap: Global, size: u16, tally: &mut Tally) -> Result<(), AllocError> {
+    let models = SmallModels::of(heap, size)?;
+    for number in models.numbers() {
+        tally.compare(heap, &models.model(heap, number)?)?;
+    }
+    Ok(())
+}
+
 // Every total model of up to three states with one word.
 fn all_small(heap: Global) -> Result<Tally, AllocError> {
     let mut tally = Tally::default();
-    for model in small_models(heap, 3)? {
-        tally.compare(heap, &model)?;
+    for size in 1..=3 {
+        all_of(heap, size, &mut tally)?;
     }
     Ok(tally)
 }

@@ -6,7 +6,6 @@ use checker::check;
 use checker::steps::Step;
 use components::Walk;
 use exchange::taking::take;
-use itertools::Itertools;
 use merger::analysis::Analysis;
 use modelfile::faults::FaultNumbers;
 use modelfile::reading::{self, load};
@@ -94,8 +93,9 @@ impl Cases {
         };
         let wanted = rows(heap, labels, offsets, targets)?;
         self.questions(&model, &wanted);
-        for (walks, states) in (0..3).cartesian_product(0..3) {
-            self.opened(&model, &wanted, walks, states);
+        // each of no, one and two walk records with each of no, one and two state numbers
+        for pair in 0..9 {
+            self.opened(&model, &wanted, pair / 3, pair % 3);
         }
         Ok(())
     }

@@ -1,8 +1,7 @@
 //! Model files read by hand, straight from the rules of the format: the second reading that `load` is held to.
 use crate::rules::Told;
-use second::oracle::{Plain, State, States};
-use std::alloc::{AllocError, Global};
-use thiserror::Error;
+use second::oracle::{Plain, State};
+use std::alloc::{AllocError, AllocFailed, Global};
 
 /// How many entries the tables have that a file is read into.
 #[derive(Clone, Copy)]
@@ -12,13 +11,23 @@ pub struct Room {
     pub targets: usize,
 }
 
-/// Why there is no model.
-#[derive(Debug, Drop, Error)]
+/// Why there is no model: the file's first fault, or no memory for the trial itself.
+#[derive(Clone, Copy)]
 pub enum Problem {
-    #[error("the file's first fault: {0:?}")]
     Fault(Told),
-    #[error("no memory for the trial itself")]
-    Memory(#[from(alloc)] AllocError),
+    Memory(AllocError),
+}
+
+impl From<AllocError> for Problem {
+    fn from(error: AllocError) -> Problem {
+        Problem::Memory(error)
+    }
+}
+
+impl<T: Drop> From<AllocFailed<T>> for Problem {
+    fn from(failed: AllocFailed<T>) -> Problem {
+        Problem::Memory(AllocError::from(failed))
+    }
 }
 
 fn fault<T>(cause: u8, place: usize) -> Result<T, Problem> {
@@ -61,13 +70,13 @@ impl Reader<'_> {
     }
 
     // The row that begins here, of a file with `count` states.
-    fn row(&mut self, count: u64) -> Result<States, Problem> {
+    fn row(&mut self, count: u64) -> Result<Vec<u16>, Problem> {
         let place = self.at;
         let degree = self.number()?;
         if degree > count {
             return fault(3, place);
         }
-        let mut moves = States::new(self.heap);
+        let mut moves: Vec<u16> = Vec::new(self.heap);
         for _move in 0..degree {
             let place = self.at;
             let target = self.number()?;
@@ -82,7 +91,7 @@ impl Reader<'_> {
                 return fault(5, place);
             };
             self.room = left;
-            moves.insert(state)?;
+            moves.push(state)?;
         }
         Ok(moves)
     }

@@ -2,8 +2,7 @@
 use crate::cases::Cases;
 use checker::steps::Step;
 use examples::pair;
-use itertools::Itertools;
-use second::lists::lists_up_to;
+use second::lists::{list, lists_up_to};
 use std::alloc::{AllocError, Global};
 
 // The steps, with the last word that there is and the first that there is not.
@@ -20,14 +19,35 @@ const STEPS: [Step; 7] = [
 // Small numbers, and bytes that a longer number begins with.
 const BYTES: [u8; 6] = [0, 1, 2, 3, 0x80, 0x81];
 
+// The entries of small tables.
+const OFFSETS: [u32; 3] = [0, 1, 2];
+
+const TARGETS: [u16; 3] = [0, 1, 2];
+
+fn all_targets(
+    heap: Global,
+    cases: &mut Cases,
+    labels: usize,
+    offsets: &[u32],
+) -> Result<(), AllocError> {
+    for number in 0..lists_up_to(&TARGETS, 2) {
+        cases.tables(heap, labels, offsets, &list(heap, &TARGETS, number)?)?;
+    }
+    Ok(())
+}
+
+fn all_offsets(heap: Global, cases: &mut Cases, labels: usize) -> Result<(), AllocError> {
+    for number in 0..lists_up_to(&OFFSETS, 3) {
+        all_targets(heap, cases, labels, &list(heap, &OFFSETS, number)?)?;
+    }
+    Ok(())
+}
+
 /// Tables of up to two labels, three offsets and two targets with entries below 3.
 pub fn all_tables(heap: Global) -> Result<Cases, AllocError> {
     let mut cases = Cases::default();
-    let offsets = lists_up_to(heap, &[0, 1, 2], 3)?;
-    let targets = lists_up_to(heap, &[0, 1, 2], 2)?;
-    let sizes = (0..3).cartesian_product(&offsets);
-    for ((labels, offsets), targets) in sizes.cartesian_product(&targets) {
-        cases.tables(heap, labels, offsets, targets)?;
+    for labels in 0..3 {
+        all_offsets(heap, &mut cases, labels)?;
     }
     Ok(cases)
 }
@@ -36,9 +56,9 @@ pub fn all_tables(heap: Global) -> Result<Cases, AllocError> {
 pub fn all_steps(heap: Global) -> Result<Cases, AllocError> {
     let swap = pair();
     let mut cases = Cases::default();
-    let short = lists_up_to(heap, &STEPS, 3)?;
-    for (steps, marks) in short.iter().cartesian_product(0..3) {
-        cases.steps(&swap, steps, marks);
+    for number in 0..lists_up_to(&STEPS, 3) {
+        let steps = list(heap, &STEPS, number)?;
+        (0..3).for_each(|marks| cases.steps(&swap, &steps, marks));
     }
     let long = [Step::True; 65];
     cases.steps(&swap, &long[..64], 2);
@@ -49,8 +69,8 @@ pub fn all_steps(heap: Global) -> Result<Cases, AllocError> {
 /// Files of up to six bytes from an alphabet of six.
 pub fn all_files(heap: Global) -> Result<Cases, AllocError> {
     let mut cases = Cases::default();
-    for file in lists_up_to(heap, &BYTES, 6)? {
-        cases.file(heap, &file)?;
+    for number in 0..lists_up_to(&BYTES, 6) {
+        cases.file(heap, &list(heap, &BYTES, number)?)?;
     }
     Ok(cases)
 }

@@ -12,7 +12,7 @@ ghost use Rattle.writing.specs.Writings.{RowsHold, RowDone, RowFault, HandsBack}
 use crate::protocol::{Rows, Sets, WriteFault, begin, is_rising};
 use codec::numbers::{Counted, Number};
 use codec::pieces::Piece;
-use kripke::{LIMIT, NOWHERE};
+use kripke::LIMIT;
 use modelfile::LONGEST;
 use models::Model;
 
@@ -37,12 +37,13 @@ type Row = [u16; LIMIT as usize];
 fn gather<'r, M: Model>(model: &M, s: u16, row: &'r mut Row) -> &'r [u16]
     ensures { result.now ≡ (M.Model.means model.now).frame.row s }
 {
-    let moves = &mut row[..model.degree(s) as usize];
-    // Kept: of what is written under `iter_mut().zip(model.moves(s))` the check knows nothing, so each move is asked by number.
-    for (k, target) in moves.iter_mut().enumerate() {
-        *target = model.target(s, k as u16).unwrap_or(NOWHERE);
+    let mut count = 0;
+    // Kept: of what is written under `iter_mut().zip(model.moves(s))` the check knows nothing, so the places are counted.
+    for target in model.moves(s) {
+        row[count] = target;
+        count += 1;
     }
-    moves
+    &row[..count]
 }
 
 // How many bytes a row takes of those that are left, or why it is refused.

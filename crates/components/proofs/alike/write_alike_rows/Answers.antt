@@ -1,9 +1,9 @@
-use Rattle.std.proofs.Common.{◌≡◌, length, replicate, set, sym, ◌∙◌, subst, arith, below_more}
-use Rattle.std.proofs.lemmas.List.{length-take-le, get_or-set_same, get_or-set_other, get_or_append_left}
+use Rattle.std.proofs.Common.{◌≡◌, length, set, sym, ◌∙◌, subst, arith, below_more}
+use Rattle.std.proofs.lemmas.List.{length-take, get_or-set_same, get_or-set_other, get_or_append_left}
 use Rattle.sets.specs.Sets.{none}
 use Rattle.components.specs.Rows.{row_at}
 use Rattle.components.specs.Alike.{AlikeMoves}
-use Rattle.components.proofs.alike.alike_rows.Goals as goal
+use Rattle.components.proofs.alike.write_alike_rows.Goals as goal
 
 pub loop-s-preserved : goal.loop-s-preserved
 loop-s-preserved g c =
@@ -18,6 +18,6 @@ pub returns : goal.returns
 returns g c =
     let M = g.M.Model.means c.args.model.now in
     let few = c.requires in
-    let long : length c.loop-s.row-items ≡ c.size.result = c.loop-s.auto.row-items ∙ length-take-le c.size.result (replicate 128 none) (omega (arith, few, c.size.ensures)) in
+    let long : length c.loop-s.row-items ≡ c.size.result = c.loop-s.auto.row-items ∙ omega (arith, length-take c.size.result c.args.rows.now, few, c.size.ensures) in
     let all : c.loop-s.s ≡ M.frame.size = omega (arith, long, c.size.ensures) in
     λ s l. subst (AlikeMoves M s) (sym (get_or_append_left c.loop-s.row-items _ none s (omega (arith, long, l, c.size.ensures)))) (c.loop-s.invariant s (omega (arith, all, l)))

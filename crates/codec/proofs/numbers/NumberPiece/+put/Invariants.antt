@@ -1,4 +1,0 @@
-use Rattle.codec.proofs.numbers.NumberPiece.+put.Given as goal
-
-abbrev pub decreases-put : goal.decreases-put
-decreases-put l = l.self.now.0
