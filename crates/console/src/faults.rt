@@ -35,6 +35,18 @@ const TOO_MANY: &str = "there are more than 128 states: give a smaller model (do
 
 const NO_MOVE: &str = "that state has no move: give it one, if only to itself (docs/ANALYSIS.md)";
 
+/// What to do about a formula that is refused for its length.
+pub const FORMULA_LENGTH: &str =
+    "a formula has 1 to 64 steps: give them as arguments (docs/FORMULAS.md)";
+
+/// The same of a step that has too few operands.
+pub const TOO_FEW_OPERANDS: &str =
+    "that step has too few operands: write them before it (docs/FORMULAS.md)";
+
+/// The same of steps that leave more than one operand.
+pub const NOT_ONE_LEFT: &str =
+    "more than one operand is left: join them by or or EU (docs/FORMULAS.md)";
+
 // The longest fault line: the word, and four numbers of at most 20 digits with a space before each.
 const LINE: usize = 96;
 
@@ -87,7 +99,7 @@ impl Fault for Gap {
     }
 }
 
-// A fault of which only the numbers are known: what to do is told by its cause.
+// What is wrong where only the numbers are known: what to do is told by the cause.
 impl Fault for FaultNumbers {
     ghost told = { λ told. told };
 
@@ -105,6 +117,9 @@ impl Fault for FaultNumbers {
             7 => TOO_LONG,
             12 => TOO_MANY,
             15 => NO_MOVE,
+            31 => FORMULA_LENGTH,
+            32 => TOO_FEW_OPERANDS,
+            33 => NOT_ONE_LEFT,
             _ => PAGES,
         }
     }

@@ -109,10 +109,11 @@ pub fn run_with_arguments<F: FnOnce(&str) -> anyhow::Result<()>>(
 ) -> anyhow::Result<()>
     requires { F.IsAlwaysCallable job }
 {
-    if wants_help(rt)? {
+    let words = arguments(rt)?;
+    if words.as_str() == "help" {
         return Ok(rt.print(help)?);
     }
-    job(&arguments(rt)?)
+    job(&words)
 }
 
 /// Runs a program that takes no arguments but `help`, and refuses others.
@@ -124,9 +125,12 @@ pub fn run<F: FnOnce(&HostRuntime) -> anyhow::Result<()>>(
 ) -> anyhow::Result<()>
     requires { F.IsAlwaysCallable job }
 {
-    run_with_arguments(rt, help, |_| {
-        no_arguments(rt, instead)?;
-        job(rt)
+    run_with_arguments(rt, help, |words| {
+        if words.is_empty() {
+            job(rt)
+        } else {
+            Err(refuse(rt, words, instead))
+        }
     })
 }
 

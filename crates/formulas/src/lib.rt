@@ -5,7 +5,7 @@ ghost use Rattle.std.specs.Prelude.{◌≡◌, ℕ, ◌<◌, ◌↔◌, Some, de
 ghost use Rattle.formulas.specs.Words.{Reads};
 
 use checker::steps::{Malformed, Refused, Step};
-use console::faults::{Fault, PAGES};
+use console::faults::{FORMULA_LENGTH, Fault, NOT_ONE_LEFT, PAGES, TOO_FEW_OPERANDS};
 
 // The number of a word of the model, with no sign and no 0 to fill up.
 #[tactic(auto, using(crate::proofs::Numerals::number_read, crate::proofs::Numerals::begins))]
@@ -37,15 +37,9 @@ pub fn step_of(word: &str) -> Option<Step>
 pub fn advice(why: Refused) -> &'static str {
     match why {
         Refused::Model(gap) => gap.advice(),
-        Refused::Steps(Malformed::Length) => {
-            "a formula has 1 to 64 steps: give them as arguments (docs/FORMULAS.md)"
-        }
-        Refused::Steps(Malformed::TooFewOperands { .. }) => {
-            "that step has too few operands: write them before it (docs/FORMULAS.md)"
-        }
-        Refused::Steps(Malformed::NotOneLeft) => {
-            "more than one operand is left: join them by or or EU (docs/FORMULAS.md)"
-        }
+        Refused::Steps(Malformed::Length) => FORMULA_LENGTH,
+        Refused::Steps(Malformed::TooFewOperands { .. }) => TOO_FEW_OPERANDS,
+        Refused::Steps(Malformed::NotOneLeft) => NOT_ONE_LEFT,
         Refused::Steps(Malformed::UnknownWord { .. }) | Refused::ShortMarks => PAGES,
     }
 }
