@@ -1,5 +1,8 @@
 //! The second engine: the relation, the components and the reduced model, each straight from its definition and by search,
 //! with no thought of speed. It shares no code with the merger.
+ghost use Rattle.std.specs.Prelude.{◌≡◌, get_or, set, false, true};
+ghost use Rattle.second.specs.Held.{held};
+
 use std::alloc::{AllocError, Global};
 
 /// A set of states: of each state, whether the set has it.
@@ -50,12 +53,16 @@ pub(crate) fn states_where<T, F: Fn(&T) -> bool>(
 
 impl States {
     /// Whether the set has a state.
-    pub fn contains(&self, s: u16) -> bool {
+    pub fn contains(&self, s: u16) -> bool
+        ensures { result ≡ get_or (held self.now) s false }
+    {
         self.has.get(usize::from(s)).copied().unwrap_or(false)
     }
 
-    // Puts a state of the model into the set.
-    pub(crate) fn insert(&mut self, s: u16) {
+    /// Puts a state of the model into the set. A number that is no state is not put.
+    pub fn insert(&mut self, s: u16)
+        ensures { held self.new ≡ set (held self.old) s true }
+    {
         if let Some(place) = self.has.get_mut(usize::from(s)) {
             *place = true;
         }

@@ -1,5 +1,9 @@
 //! Plain models as the tables of a listed one, and where they come from: all small ones, and a seeded generator.
-use crate::lists::{list, lists_up_to};
+ghost use Rattle.std.specs.Prelude.{◌<◌, ◌≡◌, ◌+◌, IfOk, map};
+ghost use Rattle.second.specs.Lists.{lists_of};
+ghost use Rattle.second.specs.Totals.{row, states_of, totals_below, model, possible};
+
+use crate::lists::{count_up_to, list, lists};
 use crate::oracle::{Plain, State};
 use models::facts::Facts;
 use models::listed::Listed;
@@ -79,7 +83,9 @@ impl Dice {
 }
 
 // The states of a set of numbers, which are its bits.
-fn states_in(heap: Global, size: u16, bits: u32) -> Result<Vec<u16>, AllocError> {
+fn states_in(heap: Global, size: u16, bits: u32) -> Result<Vec<u16>, AllocError>
+    ensures { IfOk result (λ states. states.items ≡ row size bits) }
+{
     (0..size)
         .filter(|t| bits.checked_shr(u32::from(*t)).unwrap_or(0) % 2 == 1)
         .collect(heap)
@@ -95,7 +101,9 @@ pub struct SmallModels {
 
 impl SmallModels {
     /// Those of `size` states.
-    pub fn of(heap: Global, size: u16) -> Result<SmallModels, AllocError> {
+    pub fn of(heap: Global, size: u16) -> Result<SmallModels, AllocError>
+        ensures { size < 31 → IfOk result (λ small. possible small ≡ states_of size) }
+    {
         let mut possible = Vec::new(heap);
         // a label and a row for each number; the empty row, which comes first, is none
         for number in 2..2u32.saturating_pow(u32::from(size).saturating_add(1)) {
@@ -111,8 +119,8 @@ impl SmallModels {
         let size = u32::from(self.size);
         let shorter = size
             .checked_sub(1)
-            .map_or(0, |most| lists_up_to(&self.possible, most));
-        shorter..lists_up_to(&self.possible, size)
+            .map_or(0, |most| count_up_to(&self.possible, most));
+        shorter..count_up_to(&self.possible, size)
     }
 
     /// The model of that number.
@@ -120,4 +128,25 @@ impl SmallModels {
         let states = list(heap, &self.possible, number)?;
         Ok(Plain { states })
     }
+}
+
+// Every total model of one size with one word.
+fn models_of(heap: Global, size: u16) -> Result<Vec<Plain>, AllocError>
+    ensures { size < 31 → IfOk result (λ models. map model models.items ≡ lists_of (states_of size) size) }
+{
+    let possible = SmallModels::of(heap, size)?.possible;
+    let all = lists(heap, &possible, usize::from(size))?;
+    all.into_iter().map(|states| Plain { states }).collect(heap)
+}
+
+/// Every total model of up to `most` states with one word, the smaller first.
+// No memory holds those of 31 states or more, so the clause speaks of fewer.
+pub fn small_models(heap: Global, most: u16) -> Result<Vec<Plain>, AllocError>
+    ensures { most < 31 → IfOk result (λ models. map model models.items ≡ totals_below (most + 1)) }
+{
+    let mut models = Vec::new(heap);
+    for size in 1..=most {
+        models.append(&mut models_of(heap, size)?)?;
+    }
+    Ok(models)
 }

@@ -10,4 +10,6 @@ mod kinds;
 mod lists;
 #[cfg(test)]
 mod parts;
+#[cfg(test)]
+mod plain;
 pub mod seen;

@@ -2,7 +2,7 @@
 use crate::cases::Cases;
 use checker::steps::Step;
 use examples::pair;
-use second::lists::{list, lists_up_to};
+use second::lists::{count_up_to, list};
 use std::alloc::{AllocError, Global};
 
 // The steps, with the last word that there is and the first that there is not.
@@ -30,14 +30,14 @@ fn all_targets(
     labels: usize,
     offsets: &[u32],
 ) -> Result<(), AllocError> {
-    for number in 0..lists_up_to(&TARGETS, 2) {
+    for number in 0..count_up_to(&TARGETS, 2) {
         cases.tables(heap, labels, offsets, &list(heap, &TARGETS, number)?)?;
     }
     Ok(())
 }
 
 fn all_offsets(heap: Global, cases: &mut Cases, labels: usize) -> Result<(), AllocError> {
-    for number in 0..lists_up_to(&OFFSETS, 3) {
+    for number in 0..count_up_to(&OFFSETS, 3) {
         all_targets(heap, cases, labels, &list(heap, &OFFSETS, number)?)?;
     }
     Ok(())
@@ -56,7 +56,7 @@ pub fn all_tables(heap: Global) -> Result<Cases, AllocError> {
 pub fn all_steps(heap: Global) -> Result<Cases, AllocError> {
     let swap = pair();
     let mut cases = Cases::default();
-    for number in 0..lists_up_to(&STEPS, 3) {
+    for number in 0..count_up_to(&STEPS, 3) {
         let steps = list(heap, &STEPS, number)?;
         (0..3).for_each(|marks| cases.steps(&swap, &steps, marks));
     }
@@ -69,7 +69,7 @@ pub fn all_steps(heap: Global) -> Result<Cases, AllocError> {
 /// Files of up to six bytes from an alphabet of six.
 pub fn all_files(heap: Global) -> Result<Cases, AllocError> {
     let mut cases = Cases::default();
-    for number in 0..lists_up_to(&BYTES, 6) {
+    for number in 0..count_up_to(&BYTES, 6) {
         cases.file(heap, &list(heap, &BYTES, number)?)?;
     }
     Ok(cases)

@@ -1,0 +1,4 @@
+pub mod Listing
+pub mod Counting
+pub mod Bits
+pub mod Totals
