@@ -14,6 +14,7 @@ row n bits = filter (λ t. bits / 2 ^ t % 2 == 1) (range_with_len 0 n)
 abbrev pub state_of : ℕ → ℕ → ℕ × List ℕ
 state_of n number = (number % 2, row n (number / 2))
 
+-- every state of a total model of n states
 unfoldable pub states_of : ℕ → List (ℕ × List ℕ)
 states_of n = map (state_of n) (range_with_len 2 (2 ^ (n + 1) - 2))
 

@@ -100,7 +100,7 @@ pub struct SmallModels {
 }
 
 impl SmallModels {
-    /// Those of `size` states.
+    /// Those of `size` states. What they are is promised of fewer than 31 states, where 2 ^ (size + 1) is a u32.
     pub fn of(heap: Global, size: u16) -> Result<SmallModels, AllocError>
         ensures { size < 31 → IfOk result (λ small. possible small ≡ states_of size) }
     {

@@ -46,6 +46,7 @@ fn small_models_are_made_once(rt: HostRuntime) -> Result<(), Fail> {
     }
     // each stands where its number says
     let pairs = SmallModels::of(rt.alloc(), 2)?;
+    assert_eq!(rt; pairs.numbers().count(), 36);
     for (number, told) in pairs.numbers().zip(models.iter().skip(2)) {
         let one = pairs.model(rt.alloc(), number)?;
         assert!(rt; are_same(&one, told));
